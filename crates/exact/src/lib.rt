@@ -1,0 +1,1 @@
+// Specifications only: readers that are exact against a language stand in specs/.

@@ -1,0 +1,72 @@
+-- The declaration: "Optional declaration: `<?xml`, version 1.0 or 1.1, optional encoding UTF-8 (any letter case), optional
+-- standalone yes or no, in that order, `?>`. Spaces as XML allows; single or double quotes."
+use mathlib.Core.Path.{_≡_}
+use mathlib.Core.List.{List, [], _∷_, _++_}
+use mathlib.Core.Bool.{Bool, true, _||_}
+use Prim.Native.Nat.{ℕ}
+use Prim.Native.Char.{code}
+use lib.Dec.{eqb}
+use Rattle.grammar.specs.Bytes.{Bytes, text, either, some, same, fits}
+use Rattle.grammar.specs.Glue.{Glue}
+use Rattle.grammar.specs.Value.{isQuote}
+
+-- "Spaces as XML allows": some glue, a word, `=` with glue around it, a quoted word
+pub record Setting : Type 0 where
+  pub before : Bytes
+  pub mid : Bytes
+  pub after : Bytes
+  pub quote : ℕ
+  pub word : Bytes
+
+pub data Optional : Type 0 where
+  absent : Optional
+  present : Setting → Optional
+
+pub record Declaration : Type 0 where
+  pub version : Setting
+  pub encoding : Optional
+  pub standalone : Optional
+  pub trail : Bytes
+
+-- behind the glue before it
+abbrev pub spellSetting : Bytes → Setting → Bytes
+spellSetting name s = name ++ (s .mid ++ code "=" ∷ (s .after ++ s .quote ∷ (s .word ++ s .quote ∷ [])))
+
+abbrev pub spellOptional : Bytes → Optional → Bytes
+spellOptional name absent = []
+spellOptional name (present s) = s .before ++ spellSetting name s
+
+abbrev pub spellDeclaration : Declaration → Bytes
+spellDeclaration d =
+    text "<?xml" ++ (d .version .before ++ (spellSetting (text "version") (d .version)
+    ++ (spellOptional (text "encoding") (d .encoding) ++ (spellOptional (text "standalone") (d .standalone) ++ (d .trail ++ text "?>")))))
+
+-- "version 1.0 or 1.1"
+abbrev pub isVersion : List (ℕ → Bool)
+isVersion = eqb (code "1") ∷ eqb (code ".") ∷ either (code "0") (code "1") ∷ []
+
+-- "encoding UTF-8 (any letter case)"
+abbrev pub isEncoding : List (ℕ → Bool)
+isEncoding = either (code "U") (code "u") ∷ either (code "T") (code "t") ∷ either (code "F") (code "f") ∷ eqb (code "-") ∷ eqb (code "8") ∷ []
+
+-- "standalone yes or no"
+abbrev pub isStandalone : Bytes → Bool
+isStandalone w = same (text "yes") w || same (text "no") w
+
+pub record GoodSetting (isWord : Bytes → Bool) (s : Setting) : Type 0 where
+  pub before : Glue (s .before)
+  pub apart : some (s .before) ≡ true
+  pub mid : Glue (s .mid)
+  pub after : Glue (s .after)
+  pub quote : isQuote (s .quote) ≡ true
+  pub word : isWord (s .word) ≡ true
+
+pub data GoodOptional (isWord : Bytes → Bool) : Optional → Type 0 where
+  good-absent : GoodOptional isWord absent
+  good-present : {s : Setting} → GoodSetting isWord s → GoodOptional isWord (present s)
+
+pub record GoodDeclaration (d : Declaration) : Type 0 where
+  pub version : GoodSetting (fits isVersion) (d .version)
+  pub encoding : GoodOptional (fits isEncoding) (d .encoding)
+  pub standalone : GoodOptional isStandalone (d .standalone)
+  pub trail : Glue (d .trail)

@@ -1,0 +1,101 @@
+-- Demand 3, as far as it needs no code: the theorems about the definitions of `grammar`. Proofs stand in the other files.
+use mathlib.Core.Path.{_≡_, refl, sym, ap, subst, _∙_}
+use mathlib.Core.List.{List, [], _∷_, _++_, append-assoc, append-nil}
+use mathlib.Core.Logic.{_↔_}
+use mathlib.Core.Bool.{true, false}
+use Prim.Native.Nat.{ℕ, _<_}
+use native.Mathlib.Omega.{arith}
+use lib.ListN.{length, length-append}
+use Rattle.exact.specs.Exact.{unique}
+use Rattle.exact.specs.Byte.{starts}
+use Rattle.exact.specs.Limit.{shorter}
+use Rattle.grammar.specs.Bytes.{Bytes, digit, among, fits}
+use Rattle.grammar.specs.Limits.{ATTRIBUTES}
+use Rattle.grammar.specs.Name.{Name}
+use Rattle.grammar.specs.Reference.{hexDigit, Digits}
+use Rattle.grammar.specs.Tree.{Tree}
+use Rattle.grammar.specs.Message.{Layout, Laid, Message}
+use Rattle.grammar.specs.Answer.{Behind, Open, Answer, endsAt, malformedAt, Answers}
+use Rattle.grammar.specs.Cut.{Piece, Cut}
+use Rattle.model.specs.References.{decimalBegun, decimal-open, hexadecimalBegun, hexadecimal-open}
+use Rattle.model.specs.Names.{live, name-open}
+use Rattle.model.specs.Messages.{layout-exact, message-exact}
+use Rattle.model.specs.Answers.{leading, following, behind, open-left, longest-dead, answerAt, answers, answers-are, Window, to-window, from-window}
+use Rattle.model.specs.Cuts.{piece-behind, cut-one}
+
+-- "it has only one reading"
+pub one-reading : {w : Bytes} {t t′ : Tree} → Message w t → Message w t′ → t ≡ t′
+one-reading {w} {t} {t′} m m′ = unique message-exact w w t t′ [] [] m m′ refl .1
+
+-- a message is laid out in one way, so every place and span in it is determined
+pub one-layout : {w : Bytes} {l l′ : Layout} → Laid w l → Laid w l′ → l ≡ l′
+one-layout {w} {l} {l′} m m′ = unique layout-exact w w l l′ [] [] m m′ refl .1
+
+-- "No message is the beginning of another"
+pub prefix-free : {w : Bytes} {t t′ : Tree} (r : Bytes) → Message w t → Message (w ++ r) t′ → r ≡ []
+prefix-free {w} {t} {t′} r m m′ = unique message-exact w (w ++ r) t t′ r [] m m′ (sym (append-nil (w ++ r))) .2
+
+-- "so a run of bytes cuts into messages and glue in one way at most"
+pub cut-unique : {s g g′ : Bytes} {l l′ : List Piece} → Cut s l g → Cut s l′ g′ → (l ≡ l′) × (g ≡ g′)
+cut-unique = cut-one
+
+-- every input has one of the four answers
+pub answers-total : (s : Bytes) → (a : Answer) × Answers s a
+answers-total s = (answerAt (length (leading s)) (following s), answers (behind s))
+
+-- and no two
+pub answers-only : (s : Bytes) (a a′ : Answer) → Answers s a → Answers s a′ → a ≡ a′
+answers-only s a a′ p q = answers-are a (behind s) p ∙ sym (answers-are a′ (behind s) q)
+
+-- the first 65,536 bytes after the glue decide the answer
+pub window : {s g x w : Bytes} (a : Answer) → Behind s g x → Window x w → (Answers s a ↔ Answers (g ++ w) a)
+window a p v = (to-window p v a, from-window p v a)
+
+-- nothing behind the end of a message matters: with another tail, the same answer
+pub tail-free : (s r r′ : Bytes) (start : ℕ) → Answers (s ++ r) (endsAt start (length s)) → Answers (s ++ r′) (endsAt start (length s))
+tail-free s r r′ start p =
+    let e : (p .g ++ p .bytes) ++ p .rest ≡ s ++ r = append-assoc (p .g) (p .bytes) (p .rest) ∙ sym (p .behind .whole) in
+    let k : p .g ++ p .bytes ≡ s = same-length (p .g ++ p .bytes) s (p .rest) r e (omega (arith, p .ends, length-append (p .g) (p .bytes))) in
+    record {
+      g = p .g;
+      bytes = p .bytes;
+      rest = r′;
+      reading = p .reading;
+      behind = piece-behind r′ (p .behind .glue) (p .message) (ap (λ (y : Bytes). y ++ r′) (sym k) ∙ append-assoc (p .g) (p .bytes) r′);
+      message = p .message;
+      fits = p .fits;
+      starts = p .starts;
+      ends = p .ends;
+    }
+  where
+    same-length : (u v x y : Bytes) → u ++ x ≡ v ++ y → length u ≡ length v → u ≡ v
+    same-length u v x y e h =
+        let (z, i) = shorter u x v y e (omega arith) in
+        let j : length z ≡ 0 = omega (arith, ap length i, length-append u z) in
+        sym (i ∙ none z j)
+      where
+        none : (z : Bytes) → length z ≡ 0 → u ++ z ≡ u
+        none [] h = append-nil u
+        none (b ∷ z) h = absurd (omega arith)
+
+-- a beginning of an open beginning is open
+pub open-down : (u v : Bytes) → Open (u ++ v) → Open u
+open-down = open-left
+
+-- "malformed, at the first byte after which none could": what stands before the place is open, with the byte there it is not
+pub place-first : (s : Bytes) (start place : ℕ) → Answers s (malformedAt start place)
+    → (g : Bytes) × (u : Bytes) × (b : ℕ) × (r : Bytes) × Behind s g (u ++ b ∷ r) × (place ≡ length (g ++ u)) × Open u × ¬ Open (u ++ b ∷ [])
+place-first s start place p =
+    let (b, r, i, d) = longest-dead (p .longest) (p .shorter) in
+    (p .g, p .u, b, r, subst (λ (y : Bytes). Behind s (p .g) y) i (p .behind), p .at-place ∙ sym (length-append (p .g) (p .u)), p .longest .is-open, d)
+
+-- which beginnings of an attribute name can still become one that is none of the earlier names
+pub name-begins : (earlier : List Bytes) → length earlier < ATTRIBUTES → (n : Bytes) → (live earlier n ≡ true) ↔ ((m : Bytes) × Name (n ++ m) × (among earlier (n ++ m) ≡ false))
+name-begins earlier h n = name-open earlier (omega arith) n
+
+-- which digits of a numeric reference can still be completed
+pub decimal-begins : (n : Bytes) → (decimalBegun n ≡ true) ↔ ((m : Bytes) × Digits digit 10 7 (n ++ m))
+decimal-begins = decimal-open
+
+pub hexadecimal-begins : (n : Bytes) → (hexadecimalBegun n ≡ true) ↔ ((m : Bytes) × Digits hexDigit 16 6 (n ++ m))
+hexadecimal-begins = hexadecimal-open
