@@ -92,11 +92,11 @@ new earlier n = some n && not (among earlier n)
 
 module _ (earlier : List Bytes) where
   pub record Live (n : Bytes) : Type 0 where
-    shape : shaped n ≡ true
-    fits : length n ≤ NAME
-    room : (length n < NAME) ⊎ (among earlier n ≡ false)
+    pub shape : shaped n ≡ true
+    pub fits : length n ≤ NAME
+    pub room : (length n < NAME) ⊎ (among earlier n ≡ false)
 
-  live-view : (n : Bytes) → live earlier n ≡ true → Live n
+  pub live-view : (n : Bytes) → live earlier n ≡ true → Live n
   unfolding live
   live-view n h =
       let r = and-right (shaped n) (leb (length n) NAME && (leb (length n) (NAME - 1) || not (among earlier n))) h in
@@ -106,7 +106,7 @@ module _ (earlier : List Bytes) where
       go (inl k) = inl (let z = leb-true (length n) (NAME - 1) k in omega arith)
       go (inr k) = inr (not-true _ k)
 
-  of-live : (n : Bytes) → Live n → live earlier n ≡ true
+  pub of-live : (n : Bytes) → Live n → live earlier n ≡ true
   unfolding live
   of-live n r = rw (r .shape, le-leb (length n) NAME (r .fits)) (go (r .room))
     where
@@ -121,7 +121,7 @@ module _ (earlier : List Bytes) where
       let f : length n + suc (length m) ≤ NAME = rw length-append at (r .fits) in
       of-live n (record { shape = shape-left n (x ∷ m) (r .shape); fits = omega arith; room = inl (omega arith) })
 
-  live-shut : (n : Bytes) (b : ℕ) → nameByte b ≡ false → live earlier (n ++ b ∷ []) ≡ false
+  pub live-shut : (n : Bytes) (b : ℕ) → nameByte b ≡ false → live earlier (n ++ b ∷ []) ≡ false
   unfolding live
   live-shut n b h = rw (shape-shut n b h)
 
