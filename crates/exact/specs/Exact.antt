@@ -1,30 +1,38 @@
--- Readers that are exact against a language.
+-- Readers that are exact against a language: what that means, and what follows from it once and for all.
 use mathlib.Core.Path.{_≡_, refl, sym, ap, subst, _∙_}
 use mathlib.Core.List.{List, [], _∷_, _++_, append-assoc, append-nil, append-cancel-right}
 use mathlib.Core.Logic.{_⊎_, inl, inr, _↔_}
+use mathlib.Core.Bool.{Bool, true, false}
 use Prim.Native.Nat.{ℕ}
 use native.Mathlib.Omega.{arith}
 
+-- a string of bytes
 abbrev pub Word : Type 0
 Word = List ℕ
 
+-- a language: which strings are words, and what each reads as
 abbrev pub Lang : Type 0 → Type 1
 Lang A = Word → A → Type 0
 
+-- what a reader says of a string: a word with its value, and what is left; the string ended inside a word; no word from this
+-- byte on
 pub data Out (A : Type 0) : Type 0 where
   done : A → Word → Out A
   more : Out A
   bad : Word → Out A
 
+-- a reader, as a function on strings
 abbrev pub Reader : Type 0 → Type 0
 Reader A = Word → Out A
 
--- what a reader saw in s
+-- what a reader saw in s: a word in front; a beginning that can be completed; a beginning u that wants more, and a byte b behind
+-- it that every string starting so dies of
 pub data Seen {A : Type 0} (L : Lang A) (p : Reader A) (s : Word) : Type 0 where
   isDone : (w : Word) (v : A) (r : Word) → s ≡ w ++ r → L w v → p s ≡ done v r → Seen L p s
   isMore : (x : Word) (v : A) → L (s ++ x) v → p s ≡ more → Seen L p s
   isBad : (u : Word) (b : ℕ) (r : Word) → s ≡ u ++ b ∷ r → p u ≡ more → ((x : Word) → p (u ++ b ∷ x) ≡ bad (b ∷ x)) → Seen L p s
 
+-- it reads each word in front of anything, and each string is one of the three
 pub record Exact {A : Type 0} (L : Lang A) (p : Reader A) : Type 0 where
   pub comp : (w : Word) (v : A) (r : Word) → L w v → p (w ++ r) ≡ done v r
   pub see : (s : Word) → Seen L p s
@@ -78,7 +86,7 @@ Ended {A} L s = (w : Word) × (v : A) × (r : Word) × L w v × (s ≡ w ++ r)
 abbrev pub Unfinished : {A : Type 0} → Lang A → Word → Type 0
 Unfinished L s = Begins L s × ¬ Ended L s
 
--- consequences of exactness
+-- what follows from exactness
 module _ {A : Type 0} {L : Lang A} {p : Reader A} (e : Exact L p) where
   pub sound : (s : Word) (v : A) (r : Word) → p s ≡ done v r → (w : Word) × (s ≡ w ++ r) × L w v
   sound s v r h = go (e .see s)
@@ -168,21 +176,6 @@ module _ {A : Type 0} {L : Lang A} {p : Reader A} (e : Exact L p) where
 abbrev pub Dead : {A : Type 0} → Lang A → Word → Word → Type 0
 Dead L s r = (u : Word) × (b : ℕ) × (r′ : Word) × (r ≡ b ∷ r′) × (s ≡ u ++ b ∷ r′) × Unfinished L u × ¬ Begins L (u ++ b ∷ [])
 
--- the three answers, each exactly when the language says so: what a top contract would cite
-pub record Verdicts {A : Type 0} (L : Lang A) (p : Reader A) : Type 0 where
-  pub accepts : (s : Word) (v : A) (r : Word) → (p s ≡ done v r) ↔ ((w : Word) × (s ≡ w ++ r) × L w v)
-  pub waits : (s : Word) → (p s ≡ more) ↔ Unfinished L s
-  pub refuses : (s r : Word) → (p s ≡ bad r) ↔ Dead L s r
-  pub single : (w w′ : Word) (v v′ : A) (r r′ : Word) → L w v → L w′ v′ → w ++ r ≡ w′ ++ r′ → (w ≡ w′) × (v ≡ v′) × (r ≡ r′)
-
-pub verdicts : {A : Type 0} {L : Lang A} {p : Reader A} → Exact L p → Verdicts L p
-verdicts {A} {L} {p} e = record {
-  accepts = λ s v r. (sound e s v r, λ (w, q, l). rw q (e .comp w v r l));
-  waits = λ s. (more-unfinished e s, unfinished-more e s);
-  refuses = λ s r. (bad-dead e s r, λ (u, b, r′, q, h, o, d). rw q (dead-bad e s u b r′ h o d));
-  single = unique e;
-}
-
 -- a reader of the same language, and the same answers
 pub seen-like : {A : Type 0} {L L′ : Lang A} {p p′ : Reader A} (s : Word) → ((w : Word) (v : A) → L w v → L′ w v) → ((t : Word) → p′ t ≡ p t) → Seen L p s → Seen L′ p′ s
 seen-like s f g (isDone w v r q l d) = isDone w v r q (f w v l) (g s ∙ d)
@@ -194,3 +187,35 @@ exact-like f g e = record {
   comp = λ w v r l. e .comp w v r (g w v l);
   see = λ s. seen-like s f (λ t. refl) (e .see s);
 }
+
+-- whether an outcome leaves a word possible: all was read as one, or more is wanted
+abbrev pub goes : {A : Type 0} → Out A → Bool
+goes (done v []) = true
+goes (done v (b ∷ r)) = false
+goes more = true
+goes (bad r) = false
+
+-- so an exact reader tells which strings begin a word
+pub begins-iff : {A : Type 0} {L : Lang A} {p : Reader A} → Exact L p → (s : Word) → (goes (p s) ≡ true) ↔ Begins L s
+begins-iff {A} {L} {p} e s = (to (p s) refl, from)
+  where
+    to : (o : Out A) → p s ≡ o → goes o ≡ true → Begins L s
+    to (done v []) q h = let z = sound e s v [] q in ([], v, subst (λ (y : Word). L y v) (sym (append-nil (z .0)) ∙ sym (z .1) ∙ sym (append-nil s)) (z .2))
+    to (done v (b ∷ r)) q h = absurd (let z : _≡_ {A = ℕ} 0 1 = cc in omega arith)
+    to more q h = more-unfinished e s q .0
+    to (bad r) q h = absurd (let z : _≡_ {A = ℕ} 0 1 = cc in omega arith)
+
+    at : (o : Out A) → p s ≡ o → Begins L s → goes o ≡ true
+    at (done v []) q i = refl
+    at (done v (b ∷ r)) q (x, v′, l) =
+        let z = sound e s v (b ∷ r) q in
+        let u = unique e (z .0) (s ++ x) v v′ (b ∷ (r ++ x)) [] (z .2) l (sym (append-assoc (z .0) (b ∷ r) x) ∙ ap (λ (y : Word). y ++ x) (sym (z .1)) ∙ sym (append-nil (s ++ x))) in
+        absurd (cons≢nil [] b (r ++ x) (sym (u .2)))
+    at more q i = refl
+    at (bad r) q i = let z = bad-dead e s r q in absurd (z .6 (begins-left (z .0 ++ z .1 ∷ []) (z .2) (subst (λ (y : Word). Begins L y) (z .4 ∙ sym (append-assoc (z .0) (z .1 ∷ []) (z .2))) i)))
+      where
+        begins-left : (u w : Word) → Begins L (u ++ w) → Begins L u
+        begins-left u w (x, v, l) = (w ++ x, v, subst (λ (y : Word). L y v) (append-assoc u w x) l)
+
+    from : Begins L s → goes (p s) ≡ true
+    from i = at (p s) refl i

@@ -10,13 +10,14 @@ use lib.Dec.{leb}
 use borrow.Author.Tests.{leb-true, leb-false, le-leb, lt-leb}
 use Rattle.exact.specs.Exact.{Word, Lang, Out, done, more, bad, Reader, Seen, isDone, isMore, isBad, Exact, Begins, Unfinished, sound, unique, more-unfinished, unfinished-more, bad-dead, dead-bad, Dead}
 
+-- a word that keeps the limit; more is wanted; no word from this byte on; the limit is reached and no word ended
 pub data Ans (A : Type 0) : Type 0 where
   fine : A → Word → Ans A
   wait : Ans A
   wrong : Word → Ans A
   long : Ans A
 
--- n: the greatest size
+-- what a reader says, under the limit n
 abbrev pub limited : {A : Type 0} → ℕ → Word → Out A → Ans A
 limited n t (done v r) = cond (leb (length t - length r) n) (fine v r) long
 limited n t more = cond (leb n (length t)) long wait

@@ -6,7 +6,7 @@ use Prim.Native.Nat.{ℕ}
 use Rattle.exact.specs.Exact.{Word, Lang, done, more, bad, Reader, Seen, isDone, isMore, isBad, Exact, inhabited}
 use Rattle.exact.specs.Byte.{pick, seen-first}
 
--- a token: as many bytes as can begin one, andThen what follows. `pre n`: n begins a token; `ok n`: n is one.
+-- a token: as many bytes as can begin one, then what follows. `pre n`: n begins a token; `ok n`: n is one.
 pub data TokenFrom {A : Type 0} (pre ok : Word → Bool) (K : Word → Lang A) (n : Word) (w : Word) (v : A) : Type 0 where
   token : (m k : Word) → w ≡ m ++ k → pre (n ++ m) ≡ true → ok (n ++ m) ≡ true → K (n ++ m) k v → TokenFrom pre ok K n w v
 

@@ -14,3 +14,4 @@ pub mod Declaration
 pub mod Message
 pub mod Answer
 pub mod Cut
+pub mod Examples

@@ -9,12 +9,10 @@ use lib.Dec.{leb}
 use borrow.Author.Tests.{leb-true, leb-false}
 use Rattle.exact.specs.Exact.{Begins, Ended, Unfinished}
 use Rattle.exact.specs.Chain.{clash}
-use Rattle.exact.specs.Byte.{starts}
 use Rattle.exact.specs.Limit.{Ans, fine, wait, wrong, long, limited, Limited, shorter, limit-exact}
-use Rattle.grammar.specs.Bytes.{Bytes, every, fits}
+use Rattle.grammar.specs.Bytes.{Bytes, every}
 use Rattle.grammar.specs.Limits.{MESSAGE}
 use Rattle.grammar.specs.Glue.{isGlue, Glue}
-use Rattle.grammar.specs.Filler.{below}
 use Rattle.grammar.specs.Tree.{Tree}
 use Rattle.grammar.specs.Message.{Message}
 use Rattle.grammar.specs.Answer.{leads, Behind, Open, EndedIn, LongestOpen, Answer, endsAt, moreFrom, malformedAt, tooLongFrom, Answers}
@@ -142,6 +140,10 @@ answers {s} {g} {x} p = go (verdict x) refl
     go long e =
         let (u, r, i, h, o) = limit .longs x .0 e in
         record { g = g; u = u; rest = r; behind = subst (λ (y : Bytes). Behind s g y) i p; first = h; unended = λ k. o .1 (ended k); is-open = is-open (o .0); starts = refl }
+
+pub answered : (s : Bytes) → Answers s (answerOf s)
+unfolding answerOf
+answered s = answers (behind s)
 
 -- and no other does
 record By (s : Bytes) (a : Answer) : Type 0 where

@@ -19,7 +19,6 @@ use Rattle.grammar.specs.Name.{letter, nameStart, nameByte}
 use Rattle.grammar.specs.Value.{Item, spellValue, isQuote}
 use Rattle.grammar.specs.Attribute.{Attribute, spellAttribute, spellAttributes, GoodAttribute, GoodEach, good-none, good-each, fresh, GoodAttributes}
 use Rattle.model.specs.Tests.{and-left, and-right, and-both}
-use Rattle.model.specs.Characters.{mid}
 use Rattle.model.specs.Values.{quote-is, IsValue, valueP, value-exact}
 use Rattle.model.specs.Glue.{GlueThen, glueP, glue-exact, glue-starts, quote-not-glue}
 use Rattle.model.specs.Names.{glue-not-name, start-not-glue, live, new, name-exact, name-of, of-name, name-starts}

@@ -1,7 +1,10 @@
--- A run of bytes cuts into messages and glue in one way at most.
+-- A run of bytes cuts into messages and glue in one way at most; what stands behind a message does not matter.
 use mathlib.Core.Path.{_≡_, refl, sym, ap, _∙_}
-use mathlib.Core.List.{List, [], _∷_, _++_}
+use mathlib.Core.List.{List, [], _∷_, _++_, append-assoc}
 use mathlib.Core.Bool.{true, false}
+use Prim.Native.Nat.{ℕ}
+use native.Mathlib.Omega.{arith}
+use lib.ListN.{length, length-append}
 use Rattle.exact.specs.Exact.{unique}
 use Rattle.exact.specs.Chain.{clash}
 use Rattle.exact.specs.Byte.{Starts, starts}
@@ -9,7 +12,7 @@ use Rattle.grammar.specs.Bytes.{Bytes, every}
 use Rattle.grammar.specs.Glue.{isGlue, Glue}
 use Rattle.grammar.specs.Tree.{Tree}
 use Rattle.grammar.specs.Message.{Message}
-use Rattle.grammar.specs.Answer.{leads, Behind}
+use Rattle.grammar.specs.Answer.{leads, Behind, endsAt, Answers}
 use Rattle.grammar.specs.Cut.{Piece, Cut, cut-end, cut-piece}
 use Rattle.model.specs.Tests.{and-left, and-right}
 use Rattle.model.specs.References.{later}
@@ -61,3 +64,29 @@ cut-one {s} {g} {g′} (cut-piece {r} {p} {l} k m e c) (cut-piece {r = r′} {p 
 
     go : p ≡ p′ → (l ≡ l′) × (g ≡ g′) → (p ∷ l ≡ p′ ∷ l′) × (g ≡ g′)
     go q (i, j) = (cc, j)
+
+-- a message is read in front of any tail
+same-length : (u v x y : Bytes) → u ++ x ≡ v ++ y → length u ≡ length v → u ≡ v
+same-length [] [] x y e h = refl
+same-length [] (c ∷ v) x y e h = absurd (omega arith)
+same-length (b ∷ u) [] x y e h = absurd (omega arith)
+same-length (b ∷ u) (c ∷ v) x y e h =
+    let i : b ≡ c = cc in
+    let j : u ++ x ≡ v ++ y = cc in
+    let k = same-length u v x y j (omega arith) in cc
+
+pub other-tail : (s r r′ : Bytes) (start : ℕ) → Answers (s ++ r) (endsAt start (length s)) → Answers (s ++ r′) (endsAt start (length s))
+other-tail s r r′ start p =
+    let e : (p .g ++ p .bytes) ++ p .rest ≡ s ++ r = append-assoc (p .g) (p .bytes) (p .rest) ∙ sym (p .behind .whole) in
+    let k : p .g ++ p .bytes ≡ s = same-length (p .g ++ p .bytes) s (p .rest) r e (omega (arith, p .ends, length-append (p .g) (p .bytes))) in
+    record {
+      g = p .g;
+      bytes = p .bytes;
+      rest = r′;
+      reading = p .reading;
+      behind = piece-behind r′ (p .behind .glue) (p .message) (ap (λ (y : Bytes). y ++ r′) (sym k) ∙ append-assoc (p .g) (p .bytes) r′);
+      message = p .message;
+      fits = p .fits;
+      starts = p .starts;
+      ends = p .ends;
+    }

@@ -10,12 +10,12 @@ use Rattle.exact.specs.Exact.{Lang, Reader, Exact, exact-like}
 use Rattle.exact.specs.Chain.{Ret, ret, retP, ret-exact, Seq, seq, bindP, bind-exact, Map, mapped, mapP, map-exact, clash, If, yes-if, no-if, ifP, if-exact}
 use Rattle.exact.specs.Byte.{On, on, onP, on-exact, Lit, lit, litP, eqb-true, lit-exact, Alt, left, right, Starts, starts, lit-starts, on-starts, choiceP, choice-exact, seq-starts, is-byte}
 use Rattle.exact.specs.Token.{token}
+use Rattle.exact.specs.Limit.{split}
 use Rattle.grammar.specs.Bytes.{Bytes, text, every, some, same, fits}
 use Rattle.grammar.specs.Glue.{isGlue}
 use Rattle.grammar.specs.Value.{isQuote}
 use Rattle.grammar.specs.Declaration.{Setting, Optional, absent, present, Declaration, spellSetting, spellOptional, spellDeclaration, isVersion, isEncoding, isStandalone, GoodSetting, GoodOptional, good-absent, good-present, GoodDeclaration}
 use Rattle.model.specs.Tests.{and-left, and-right, and-both, or-cases, same-true, uncons}
-use Rattle.model.specs.Characters.{mid}
 use Rattle.model.specs.Glue.{GlueThen, glueP, glue-exact, quote-not-glue}
 
 -- words of a declaration

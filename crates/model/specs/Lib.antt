@@ -13,4 +13,6 @@ pub mod Declarations
 pub mod Messages
 pub mod Answers
 pub mod Cuts
+pub mod Completions
 pub mod Theorems
+pub mod Bench

@@ -14,7 +14,7 @@ use Rattle.grammar.specs.Glue.{isGlue}
 use Rattle.grammar.specs.Attribute.{spellAttributes}
 use Rattle.grammar.specs.Filler.{prolog, root, Filler, spellFiller}
 use Rattle.grammar.specs.Tree.{Tree}
-use Rattle.grammar.specs.Element.{Element, empty, spellEnd}
+use Rattle.grammar.specs.Element.{Element, spellEnd}
 use Rattle.grammar.specs.Declaration.{spellDeclaration}
 use Rattle.grammar.specs.Message.{Root, Layout, plain, declared, hermes, spellRoot, spellLayout, GoodRoot, GoodLayout, good-plain, good-declared, readLayout, Laid, Message}
 use Rattle.model.specs.Tests.{uncons}

@@ -12,7 +12,7 @@ use Rattle.exact.specs.Exact.{Lang, Reader, Exact}
 use Rattle.exact.specs.Chain.{clash}
 use Rattle.exact.specs.Byte.{eqb-true, Starts, starts}
 use Rattle.exact.specs.Token.{TokenFrom, tokenP, token-exact}
-use Rattle.grammar.specs.Bytes.{Bytes, text, within, digit, every, some, among, fits}
+use Rattle.grammar.specs.Bytes.{Bytes, text, within, digit, every, some, among}
 use Rattle.grammar.specs.Limits.{NAME}
 use Rattle.grammar.specs.Glue.{isGlue}
 use Rattle.grammar.specs.Name.{letter, nameStart, nameByte, shaped, Name}

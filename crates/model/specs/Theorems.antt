@@ -1,27 +1,30 @@
 -- Demand 3, as far as it needs no code: the theorems about the definitions of `grammar`. Proofs stand in the other files.
-use mathlib.Core.Path.{_≡_, refl, sym, ap, subst, _∙_}
-use mathlib.Core.List.{List, [], _∷_, _++_, append-assoc, append-nil}
+use mathlib.Core.Path.{_≡_, refl, sym, subst, _∙_}
+use mathlib.Core.List.{List, [], _∷_, _++_, append-nil}
 use mathlib.Core.Logic.{_↔_}
 use mathlib.Core.Bool.{true, false}
 use Prim.Native.Nat.{ℕ, _<_}
+use Prim.Native.Char.{code}
 use native.Mathlib.Omega.{arith}
 use lib.ListN.{length, length-append}
-use Rattle.exact.specs.Exact.{unique}
-use Rattle.exact.specs.Byte.{starts}
-use Rattle.exact.specs.Limit.{shorter}
-use Rattle.grammar.specs.Bytes.{Bytes, digit, among, fits}
+use Rattle.exact.specs.Exact.{unique, goes, begins-iff}
+use Rattle.grammar.specs.Bytes.{Bytes, digit, among}
 use Rattle.grammar.specs.Limits.{ATTRIBUTES}
 use Rattle.grammar.specs.Name.{Name}
 use Rattle.grammar.specs.Reference.{hexDigit, Digits}
+use Rattle.grammar.specs.Value.{isQuote, banned}
 use Rattle.grammar.specs.Tree.{Tree}
 use Rattle.grammar.specs.Message.{Layout, Laid, Message}
 use Rattle.grammar.specs.Answer.{Behind, Open, Answer, endsAt, malformedAt, Answers}
 use Rattle.grammar.specs.Cut.{Piece, Cut}
+use Rattle.model.specs.Characters.{IsRaw}
 use Rattle.model.specs.References.{decimalBegun, decimal-open, hexadecimalBegun, hexadecimal-open}
+use Rattle.model.specs.Values.{quote-is, ban-ascii, plain-letter}
 use Rattle.model.specs.Names.{live, name-open}
-use Rattle.model.specs.Messages.{layout-exact, message-exact}
-use Rattle.model.specs.Answers.{leading, following, behind, open-left, longest-dead, answerAt, answers, answers-are, Window, to-window, from-window}
-use Rattle.model.specs.Cuts.{piece-behind, cut-one}
+use Rattle.model.specs.Messages.{layout-exact, messageP, message-exact}
+use Rattle.model.specs.Answers.{behind, begins, is-open, open-left, longest-dead, answerOf, answered, answers-are, Window, to-window, from-window}
+use Rattle.model.specs.Cuts.{cut-one, other-tail}
+use Rattle.model.specs.Completions.{charBegins, char-begins}
 
 -- "it has only one reading"
 pub one-reading : {w : Bytes} {t t′ : Tree} → Message w t → Message w t′ → t ≡ t′
@@ -41,7 +44,7 @@ cut-unique = cut-one
 
 -- every input has one of the four answers
 pub answers-total : (s : Bytes) → (a : Answer) × Answers s a
-answers-total s = (answerAt (length (leading s)) (following s), answers (behind s))
+answers-total s = (answerOf s, answered s)
 
 -- and no two
 pub answers-only : (s : Bytes) (a a′ : Answer) → Answers s a → Answers s a′ → a ≡ a′
@@ -53,30 +56,7 @@ window a p v = (to-window p v a, from-window p v a)
 
 -- nothing behind the end of a message matters: with another tail, the same answer
 pub tail-free : (s r r′ : Bytes) (start : ℕ) → Answers (s ++ r) (endsAt start (length s)) → Answers (s ++ r′) (endsAt start (length s))
-tail-free s r r′ start p =
-    let e : (p .g ++ p .bytes) ++ p .rest ≡ s ++ r = append-assoc (p .g) (p .bytes) (p .rest) ∙ sym (p .behind .whole) in
-    let k : p .g ++ p .bytes ≡ s = same-length (p .g ++ p .bytes) s (p .rest) r e (omega (arith, p .ends, length-append (p .g) (p .bytes))) in
-    record {
-      g = p .g;
-      bytes = p .bytes;
-      rest = r′;
-      reading = p .reading;
-      behind = piece-behind r′ (p .behind .glue) (p .message) (ap (λ (y : Bytes). y ++ r′) (sym k) ∙ append-assoc (p .g) (p .bytes) r′);
-      message = p .message;
-      fits = p .fits;
-      starts = p .starts;
-      ends = p .ends;
-    }
-  where
-    same-length : (u v x y : Bytes) → u ++ x ≡ v ++ y → length u ≡ length v → u ≡ v
-    same-length u v x y e h =
-        let (z, i) = shorter u x v y e (omega arith) in
-        let j : length z ≡ 0 = omega (arith, ap length i, length-append u z) in
-        sym (i ∙ none z j)
-      where
-        none : (z : Bytes) → length z ≡ 0 → u ++ z ≡ u
-        none [] h = append-nil u
-        none (b ∷ z) h = absurd (omega arith)
+tail-free = other-tail
 
 -- a beginning of an open beginning is open
 pub open-down : (u v : Bytes) → Open (u ++ v) → Open u
@@ -99,3 +79,11 @@ decimal-begins = decimal-open
 
 pub hexadecimal-begins : (n : Bytes) → (hexadecimalBegun n ≡ true) ↔ ((m : Bytes) × Digits hexDigit 16 6 (n ++ m))
 hexadecimal-begins = hexadecimal-open
+
+-- which bytes of a character that stands raw between quotes q can still be completed
+pub character-begins : (q : ℕ) → isQuote q ≡ true → (w : Bytes) → (charBegins (banned q) w ≡ true) ↔ ((m : Bytes) × (c : ℕ) × IsRaw (banned q) (w ++ m) c)
+character-begins q h w = char-begins (banned q) (ban-ascii q (quote-is q h)) (code "A") (plain-letter q (quote-is q h)) w
+
+-- whether a beginning is open is computed
+pub open-iff : (x : Bytes) → (goes (messageP x) ≡ true) ↔ Open x
+open-iff x = let e = begins-iff message-exact x in (λ h. is-open (e .0 h), λ o. e .1 (begins o))

@@ -40,12 +40,12 @@ quote-is q h = go (or-cases _ _ h)
     go (inl k) = inl (eqb-true 34 q k)
     go (inr k) = inr (eqb-true 39 q k)
 
-ban-ascii : (q : ℕ) → (q ≡ 34) ⊎ (q ≡ 39) → (c : ℕ) → 127 < c → banned q c ≡ false
+pub ban-ascii : (q : ℕ) → (q ≡ 34) ⊎ (q ≡ 39) → (c : ℕ) → 127 < c → banned q c ≡ false
 unfolding banned
 ban-ascii q (inl e) c h = rw (e, ne-eqb 60 c (λ z. omega arith), ne-eqb 38 c (λ z. omega arith)) (ne-eqb 34 c (λ z. omega arith))
 ban-ascii q (inr e) c h = rw (e, ne-eqb 60 c (λ z. omega arith), ne-eqb 38 c (λ z. omega arith)) (ne-eqb 39 c (λ z. omega arith))
 
-plain-letter : (q : ℕ) → (q ≡ 34) ⊎ (q ≡ 39) → plainByte (banned q) 65 ≡ true
+pub plain-letter : (q : ℕ) → (q ≡ 34) ⊎ (q ≡ 39) → plainByte (banned q) 65 ≡ true
 unfolding plainByte banned isChar within
 plain-letter q (inl e) = rw e
 plain-letter q (inr e) = rw e

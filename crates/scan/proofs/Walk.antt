@@ -11,13 +11,12 @@ use native.Mathlib.Nat.{sub-self, add-zero}
 use lib.Seq.{drop-cons, getD-drop, take-suc}
 use borrow.Author.Tests.{lt-leb, eq-eqb, ne-eqb}
 use Rattle.model.specs.Tests.{and-left, and-right, and-both, every-append, every-snoc}
-use Rattle.model.specs.References.{begun}
 use Rattle.model.specs.Glue.{always}
 use Rattle.model.specs.Names.{live, new, live-view, of-live, live-shut}
 use Rattle.exact.specs.Exact.{done, more, bad}
 use Rattle.exact.specs.Chain.{retP}
 use Rattle.exact.specs.Token.{tokenP}
-use Rattle.grammar.specs.Bytes.{Bytes, every, some, same, fits}
+use Rattle.grammar.specs.Bytes.{Bytes, every, some}
 use Rattle.grammar.specs.Glue.{isGlue}
 use Rattle.grammar.specs.Name.{nameStart, nameByte, shaped}
 use Rattle.grammar.specs.Reference.{lt}

@@ -1,0 +1,218 @@
+-- Worked examples: what the definitions say of bytes, values, names, depths and one whole message. They hold by computation.
+use mathlib.Core.Path.{_≡_, refl}
+use mathlib.Core.List.{List, [], _∷_, _++_}
+use mathlib.Core.Bool.{true, false, _&&_, _||_}
+use Prim.Native.Nat.{ℕ, zero, suc, _≤_}
+use Prim.Native.Char.{code}
+use Prim.Native.String.{String}
+use native.Mathlib.Omega.{arith}
+use lib.ListN.{length}
+use Rattle.grammar.specs.Bytes.{Bytes, text, within, digit, some}
+use Rattle.grammar.specs.Limits.{NAME}
+use Rattle.grammar.specs.Glue.{isGlue, Glue}
+use Rattle.grammar.specs.Name.{letter, nameStart, nameByte, shaped, Name}
+use Rattle.grammar.specs.Character.{isChar, utf8}
+use Rattle.grammar.specs.Reference.{amp, lt, gt, quot, apos, named, decimal, hexadecimal, hexDigit, worth, GoodReference, good-named, good-decimal, good-hexadecimal, readReference}
+use Rattle.grammar.specs.Value.{raw, ref, isQuote, banned, good-raw, good-ref, good-last, good-item, readItem, readValue}
+use Rattle.grammar.specs.Attribute.{Attribute, GoodAttribute, good-none, good-each, fresh, GoodAttributes}
+use Rattle.grammar.specs.Filler.{Standing, Filler, GoodFiller}
+use Rattle.grammar.specs.Tree.{tree, no-trees, tree-then}
+use Rattle.grammar.specs.Element.{Tag, Element, empty, full, Content, bare, child, GoodTag, GoodElement, good-empty, good-full, GoodContent, good-bare, good-child}
+use Rattle.grammar.specs.Declaration.{Setting, absent, good-absent}
+use Rattle.grammar.specs.Message.{Root, Layout, declared, spellLayout, GoodRoot, GoodLayout, good-declared, readLayout, Message}
+
+-- characters: both ends of each range, and what stands beside them
+pub chars : isChar 9 && isChar 10 && isChar 13 && isChar 0x20 && isChar 0xD7FF && isChar 0xE000 && isChar 0xFFFD && isChar 0x10000 && isChar 0x10FFFF ≡ true
+unfolding isChar within
+chars = refl
+
+pub no-chars : isChar 8 || isChar 11 || isChar 14 || isChar 0x1F || isChar 0xD800 || isChar 0xDFFF || isChar 0xFFFE || isChar 0xFFFF || isChar 0x110000 ≡ false
+unfolding isChar within
+no-chars = refl
+
+-- UTF-8 of 1, 2, 3 and 4 bytes
+pub utf8-lengths : utf8 0x41 ++ (utf8 0xE9 ++ (utf8 0x20AC ++ utf8 0x1F600)) ≡ 0x41 ∷ 0xC3 ∷ 0xA9 ∷ 0xE2 ∷ 0x82 ∷ 0xAC ∷ 0xF0 ∷ 0x9F ∷ 0x98 ∷ 0x80 ∷ []
+unfolding utf8
+utf8-lengths = refl
+
+-- glue
+pub all-glue : Glue (text " \t\r\n")
+unfolding isGlue
+all-glue = refl
+
+pub no-glue : isGlue 11 || isGlue 0x85 || isGlue 0xA0 ≡ false
+unfolding isGlue
+no-glue = refl
+
+-- names
+abbrev name64 : Bytes
+name64 = text "_123456789abcdefghijABCDEFGHIJ-.:_0123456789ZYXWVUTSRQPONMLKJIHG"
+
+pub longest-name : Name name64
+unfolding nameByte nameStart letter digit within
+longest-name = record { shape = refl; one = refl; short = omega arith }
+
+pub too-long-name : ¬ Name (name64 ++ text "a")
+too-long-name n = let h = n .short in omega arith
+
+pub no-name-starts : nameStart (code "0") || nameStart (code "-") || nameStart (code ":") || nameByte (code "/") || nameByte 0xC3 ≡ false
+unfolding nameByte nameStart letter digit within
+no-name-starts = refl
+
+-- references: seven decimal and six hex digits are the most, and they name a character
+pub longest-references : GoodReference (decimal (text "1114111")) × GoodReference (hexadecimal (text "10fFfF"))
+unfolding isChar within digit hexDigit worth
+longest-references =
+    (good-decimal {n = text "1114111"} (record { digits = refl; one = refl; short = omega arith; names = refl }), good-hexadecimal {n = text "10fFfF"} (record { digits = refl; one = refl; short = omega arith; names = refl }))
+
+pub too-long-references : ¬ GoodReference (decimal (text "00000065")) × ¬ GoodReference (hexadecimal (text "0000041"))
+too-long-references = (eight-digits, seven-digits)
+  where
+    eight-digits : GoodReference (decimal (text "00000065")) → ⊥
+    eight-digits (good-decimal d) = let h = d .short in omega arith
+
+    seven-digits : GoodReference (hexadecimal (text "0000041")) → ⊥
+    seven-digits (good-hexadecimal d) = let h = d .short in omega arith
+
+pub no-such-character : isChar (readReference (hexadecimal (text "D800"))) || isChar (readReference (decimal (text "0"))) ≡ false
+unfolding isChar within worth
+no-such-character = refl
+
+-- values: tab, LF, CR LF and CR read as a space each; what is referenced reads as itself; NEL is kept
+pub spaces : readValue (raw 9 ∷ raw 10 ∷ raw 13 ∷ raw 10 ∷ raw 13 ∷ raw 13 ∷ raw 10 ∷ []) ≡ text "     "
+unfolding readValue readItem
+spaces = refl
+
+pub referenced : readValue (ref (decimal (text "9")) ∷ raw 13 ∷ ref (decimal (text "10")) ∷ ref (hexadecimal (text "D")) ∷ raw 10 ∷ []) ≡ 9 ∷ 32 ∷ 10 ∷ 13 ∷ 32 ∷ []
+unfolding readValue readItem utf8 worth
+referenced = refl
+
+pub named-references : readValue (ref (named amp) ∷ ref (named lt) ∷ ref (named gt) ∷ ref (named quot) ∷ ref (named apos) ∷ []) ≡ text "&<>\"'"
+unfolding readValue readItem utf8
+named-references = refl
+
+pub line-ends-kept : readValue (raw 13 ∷ raw 0x85 ∷ raw 0x2028 ∷ []) ≡ 32 ∷ 0xC2 ∷ 0x85 ∷ 0xE2 ∷ 0x80 ∷ 0xA8 ∷ []
+unfolding readValue readItem utf8
+line-ends-kept = refl
+
+-- six open elements at most: the root, and five one in another below it
+abbrev bareTag : String → Tag
+bareTag n = record { name = text n; attributes = []; trail = [] }
+
+abbrev none : Filler
+none = record { glue = [] }
+
+abbrev around : String → Element → Element
+around n e = full (bareTag n) (child none e (bare none)) []
+
+abbrev rootOf : Element → Root
+rootOf e = record { attributes = []; trail = []; before = none; inner = e; after = none; shut = [] }
+
+abbrev five : Element
+five = around "A" (around "B" (around "C" (around "D" (empty (bareTag "E")))))
+
+good-none-filler : {s : Standing} → GoodFiller s none
+good-none-filler = record { glue = refl }
+
+no-attributes : GoodAttributes []
+no-attributes = record { few = omega arith; fresh-names = refl; each = good-none }
+
+good-tag : (n : String) → shaped (text n) ≡ true → some (text n) ≡ true → length (text n) ≤ NAME → GoodTag (bareTag n)
+good-tag n h k l = record { name = record { shape = h; one = k; short = l }; attributes = no-attributes; trail = refl }
+
+good-around : {d : ℕ} {e : Element} (n : String) → GoodTag (bareTag n) → GoodElement d e → GoodElement (suc d) (around n e)
+good-around n t g = good-full t (good-child good-none-filler g (good-bare good-none-filler)) refl
+
+pub six-levels : GoodRoot (rootOf five)
+unfolding nameByte nameStart letter digit within
+six-levels = record {
+  attributes = no-attributes;
+  trail = refl;
+  before = good-none-filler;
+  inner = good-around "A" (good-tag "A" refl refl (omega arith)) (good-around "B" (good-tag "B" refl refl (omega arith)) (good-around "C" (good-tag "C" refl refl (omega arith))
+      (good-around "D" (good-tag "D" refl refl (omega arith)) (good-empty (good-tag "E" refl refl (omega arith))))));
+  after = good-none-filler;
+  shut = refl;
+}
+
+pub seven-levels : ¬ GoodRoot (rootOf (around "Z" five))
+seven-levels g = at4 (g .inner)
+  where
+    no-child : {d : ℕ} {c : Content} → GoodContent d c → d ≡ 0 → (f : Filler) (e : Element) (r : Content) → c ≡ child f e r → ⊥
+    no-child (good-bare y) z f e r q = let i : _≡_ {A = ℕ} 0 1 = cc in omega arith
+    no-child (good-child y x g) z f e r q = omega arith
+
+    at0 : (n : String) (e : Element) → GoodElement 0 (around n e) → ⊥
+    at0 n e (good-full t g h) = no-child g refl none e (bare none) refl
+
+    at4 : GoodElement 4 (around "Z" five) → ⊥
+    at4 (good-full t (good-child f (good-full t1 (good-child f1 (good-full t2 (good-child f2 (good-full t3 (good-child f3 g c3) h3) c2) h2) c1) h1) c) h) = at0 "D" (empty (bareTag "E")) g
+
+-- a whole message: spelt, good and read
+abbrev oneZero : Setting
+oneZero = record { before = text " "; mid = []; after = []; quote = code "'"; word = text "1.0" }
+
+abbrev timestamp : Attribute
+timestamp = record { before = text " "; name = text "Timestamp"; mid = []; after = []; quote = code "\""; value = raw (code "x") ∷ [] }
+
+abbrev idAttribute : Attribute
+idAttribute = record { before = text " "; name = text "Id"; mid = text " "; after = text "\t"; quote = code "'"; value = raw (code "a") ∷ raw 9 ∷ ref (named amp) ∷ [] }
+
+abbrev checkAlive : Tag
+checkAlive = record { name = text "CheckAlive"; attributes = idAttribute ∷ []; trail = text " " }
+
+abbrev example : Layout
+example =
+    declared (record { version = oneZero; encoding = absent; standalone = absent; trail = [] }) (record { glue = text "\n" })
+    (record { attributes = timestamp ∷ []; trail = []; before = none; inner = empty checkAlive; after = none; shut = text " " })
+
+pub example-spelt : spellLayout example ≡ text "<?xml version='1.0'?>\n<Hermes Timestamp=\"x\"><CheckAlive Id =\t'a\t&amp;' /></Hermes >"
+unfolding utf8
+example-spelt = refl
+
+pub example-read : readLayout example
+    ≡ tree (text "Hermes") (record { name = text "Timestamp"; value = text "x" } ∷ []) (tree-then (tree (text "CheckAlive") (record { name = text "Id"; value = text "a &" } ∷ []) no-trees) no-trees)
+unfolding readValue readItem utf8
+example-read = refl
+
+pub example-good : GoodLayout example
+unfolding isGlue isQuote isChar banned nameByte nameStart letter digit within
+example-good = good-declared (record { version = record { before = refl; apart = refl; mid = refl; after = refl; quote = refl; word = refl }; encoding = good-absent; standalone = good-absent; trail = refl })
+    (record { glue = refl })
+    (record {
+      attributes = good-one timestamp (record { before = refl; apart = refl; name = record { shape = refl; one = refl; short = omega arith }; mid = refl; after = refl; quote = refl; value = good-item (good-raw refl refl) good-last });
+      trail = refl;
+      before = good-none-filler;
+      inner = good-empty {t = checkAlive} (record {
+        name = record { shape = refl; one = refl; short = omega arith };
+        attributes = good-one idAttribute (record {
+          before = refl;
+          apart = refl;
+          name = record { shape = refl; one = refl; short = omega arith };
+          mid = refl;
+          after = refl;
+          quote = refl;
+          value = good-item (good-raw refl refl) (good-item (good-raw refl refl) (good-item (good-ref good-named) good-last));
+        });
+        trail = refl;
+      });
+      after = good-none-filler;
+      shut = refl;
+    })
+  where
+    good-one : (a : Attribute) → GoodAttribute a → GoodAttributes (a ∷ [])
+    good-one a g = record { few = omega arith; fresh-names = refl; each = good-each g good-none }
+
+pub example-message : Message (spellLayout example) (readLayout example)
+example-message = record { layout = example; laid = record { good = example-good; spelt = refl }; reads = refl }
+
+-- no name twice, and at most 32 attributes
+pub twice : fresh [] (timestamp ∷ idAttribute ∷ timestamp ∷ []) ≡ false
+twice = refl
+
+abbrev copies : ℕ → List Attribute
+copies zero = []
+copies (suc n) = timestamp ∷ copies n
+
+pub too-many : ¬ GoodAttributes (copies 33)
+too-many g = let h = g .few in omega arith
