@@ -1,0 +1,19 @@
+-- `accepted` is the definition's: the two ids and the order are what the calls say.
+use borrow.Author.Needs.{needs}
+use Rattle.lane.proofs.Lane.accepted.Statement.{statement}
+use Rattle.lane.proofs.Lane.accepted.Tie as tie
+
+offered-in-requires : tie.Need-offered-in-requires
+offered-in-requires c κs = search needs
+
+running-in-requires : tie.Need-running-in-requires
+running-in-requires c κs = search needs
+
+start-order-requires : tie.Need-start-order-requires
+start-order-requires c κs = search needs
+
+returns : tie.Need-returns
+returns c = rw (c .before .before .offered-in .ensures, c .before .running-in .ensures, c .start-order .ensures)
+
+pub accepted-spec : {M : Type 1} → statement M
+accepted-spec = tie.close (tie.spec offered-in-requires running-in-requires start-order-requires returns)

@@ -1,0 +1,45 @@
+-- `sent` is the definition's: the step that `next` found is put into it.
+use borrow.Author.Needs.{needs}
+use Rattle.lane.specs.Record as says
+use Rattle.lane.proofs.Lane.sent.Statement.{statement}
+use Rattle.lane.proofs.Lane.sent.Tie as tie
+
+carries-own-requires : tie.Need-carries-own-requires
+carries-own-requires c κs = search needs
+
+next-requires : tie.Need-next-requires
+next-requires c κs = search needs
+
+enum-known-n : tie.Need-enum-known-n
+enum-known-n c = search needs
+
+accepted-requires : tie.Need-accepted-requires
+accepted-requires c κs = search needs
+
+enum-told : tie.Need-enum-told
+enum-told c = search needs
+
+returns : tie.Need-returns
+unfolding says.sent
+returns c =
+    let b = c .before .before .before .before in
+    rw (← b .before .carries-own .ensures, ← b .next .ensures, c .before .before .n .given .1)
+    (c .accepted .ensures)
+
+returns-2 : tie.Need-returns-2
+unfolding says.sent
+returns-2 c =
+    let b = c .before .before in
+    rw (← b .before .carries-own .ensures, ← b .next .ensures, c .enum-told .given .1)
+
+pub sent-spec : {M : Type 1} → statement M
+sent-spec =
+    tie.close
+    (tie.spec
+    carries-own-requires
+    next-requires
+    enum-known-n
+    accepted-requires
+    enum-told
+    returns
+    returns-2)

@@ -1,0 +1,5 @@
+pub mod Picks
+pub mod Rows
+pub mod Bytes
+pub mod Among
+pub mod Ranges

@@ -1,0 +1,18 @@
+-- Document 01, "The lane".
+-- What is defined, to be read in this order:
+pub mod Names
+pub mod Chart
+pub mod Record
+-- Theorems about it:
+pub mod ChartExact
+pub mod StepForStep
+pub mod IdsZero
+pub mod Belt
+pub mod Orders
+pub mod Free
+pub mod Bench
+pub mod Only
+-- For proofs only:
+pub mod Laws
+pub mod OrderLaws
+pub mod Entry

@@ -1,0 +1,233 @@
+// The handover state of one lane: its record, and what a received or a sent message makes of it.
+// Nothing here reads or writes bytes of a message.
+mod names; // names.rt: the numbers by name
+mod chart; // chart.rt: which message makes which transition
+
+use chart::Step;
+use chart::next;
+use grammar::Limits;
+pub use names::Kind;
+pub use names::Order;
+pub use names::Refusal;
+pub use names::Side;
+pub use names::State;
+ghost use mathlib.Core.Path.{_≡_};
+ghost use Rattle.lane.specs.Names.{U, D};
+ghost use Rattle.lane.specs.Record as says;
+
+/// A lane: our side, one of nine states, and the two ids.
+pub struct Lane {
+    pub side: u8,
+    pub state: u8,
+    pub offered: [u8; 36],
+    pub running: [u8; 36],
+}
+
+/// What a message did: a refusal number (0: accepted), the lane after it, and the belt order.
+pub struct Moved {
+    pub refusal: u8,
+    pub lane: Lane,
+    pub order: u8,
+}
+
+impl Lane {
+    /// The limits that a lane's messages keep.
+    pub const MESSAGE: usize = Limits::MESSAGE;
+
+    pub const NAME: usize = Limits::NAME;
+
+    pub const ATTRIBUTES: usize = Limits::ATTRIBUTES;
+
+    pub const DEPTH: usize = Limits::DEPTH;
+
+    /// A new lane of the upstream machine.
+    pub fn upstream() -> Self
+        ensures { λ r. ⌜ r ≡ says.fresh U ⌝ }
+    {
+        fresh(Side::UPSTREAM)
+    }
+
+    /// A new lane of the downstream machine.
+    pub fn downstream() -> Self
+        ensures { λ r. ⌜ r ≡ says.fresh D ⌝ }
+    {
+        fresh(Side::DOWNSTREAM)
+    }
+
+    /// The lane after its connection was lost.
+    pub fn lost(self) -> Self
+        ensures { λ r. ⌜ r ≡ says.blank self ⌝ }
+    {
+        fresh(self.side)
+    }
+
+    /// The answer to a refusal that ends the connection: the lane is NotConnected, and a board under way is stopped.
+    pub fn ended(self, refusal: u8) -> Moved
+        ensures { λ r. ⌜ r ≡ says.ended self refusal ⌝ }
+    {
+        let lane = self.lost();
+        if under_way(self.state) {
+            return Moved {
+                refusal,
+                lane,
+                order: Order::STOP_NOW,
+            };
+        }
+        Moved {
+            refusal,
+            lane,
+            order: Order::NONE,
+        }
+    }
+
+    /// What a received message of a kind does; `id` is its BoardId, where it has one.
+    /// Where the chart has no transition, the connection ends with a protocol error.
+    pub fn received(self, kind: u8, id: [u8; 36]) -> Moved
+        ensures { λ r. ⌜ r ≡ says.received self kind id ⌝ }
+    {
+        let same = self.carries_own(kind, id);
+        match next(self.state, kind, other(self.side), true, same) {
+            Step::To(n) => self.accepted(n, kind, id),
+            Step::NoTransition => self.ended(Refusal::PROTOCOL_ERROR),
+        }
+    }
+
+    /// What sending a message of a kind does; `id` is its BoardId, where it has one.
+    /// Where the chart has no transition, the message may not be sent, and the lane is kept.
+    pub fn sent(self, kind: u8, id: [u8; 36]) -> Moved
+        ensures { λ r. ⌜ r ≡ says.sent self kind id ⌝ }
+    {
+        let same = self.carries_own(kind, id);
+        match next(self.state, kind, self.side, false, same) {
+            Step::To(n) => self.accepted(n, kind, id),
+            Step::NoTransition => Moved {
+                refusal: Refusal::MAY_NOT_BE_SENT,
+                lane: self,
+                order: Order::NONE,
+            },
+        }
+    }
+}
+
+impl Lane {
+    // The answer to an accepted message that leads to state `n`.
+    fn accepted(self, n: u8, kind: u8, id: [u8; 36]) -> Moved
+        ensures { λ r. ⌜ r ≡ says.accepted n self kind id ⌝ }
+    {
+        let offered = self.offered_in(n, kind, id);
+        let running = self.running_in(n, kind, id);
+        let order = self.start_order(kind, id);
+        let lane = Lane {
+            side: self.side,
+            state: n,
+            offered,
+            running,
+        };
+        Moved {
+            refusal: Refusal::ACCEPTED,
+            lane,
+            order,
+        }
+    }
+
+    // The offered id in state `n`, to which a message of a kind with an id led.
+    fn offered_in(self, n: u8, kind: u8, id: [u8; 36]) -> [u8; 36]
+        ensures { λ r. ⌜ r ≡ says.offeredIn n self kind id ⌝ }
+    {
+        match n {
+            State::OFFERED | State::BOTH => {
+                if kind == Kind::BOARD_AVAILABLE {
+                    return id;
+                }
+                self.offered
+            }
+            _ => [0u8; 36],
+        }
+    }
+
+    // The running id in state `n`, to which a message of a kind with an id led.
+    fn running_in(self, n: u8, kind: u8, id: [u8; 36]) -> [u8; 36]
+        ensures { λ r. ⌜ r ≡ says.runningIn n self kind id ⌝ }
+    {
+        if under_way(n) {
+            if kind == Kind::START_TRANSPORT {
+                return id;
+            }
+            return self.running;
+        }
+        [0u8; 36]
+    }
+
+    // The belt order of an accepted message.
+    fn start_order(self, kind: u8, id: [u8; 36]) -> u8
+        ensures { λ r. ⌜ r ≡ says.startOrder (self .state) kind (says.carriesOwn self kind id) ⌝ }
+    {
+        if kind == Kind::START_TRANSPORT {
+            if self.state == State::BOTH {
+                if self.carries_own(kind, id) {
+                    return Order::RUN;
+                }
+            }
+            return Order::CANCEL;
+        }
+        Order::NONE
+    }
+
+    // Whether a message carries the id that it is held against.
+    fn carries_own(self, kind: u8, id: [u8; 36]) -> bool
+        ensures { λ r. ⌜ r ≡ says.carriesOwn self kind id ⌝ }
+    {
+        if kind == Kind::START_TRANSPORT {
+            let offered = self.offered;
+            return same_id(offered, id);
+        }
+        let running = self.running;
+        same_id(running, id)
+    }
+}
+
+// A lane of a side, with no connection.
+fn fresh(side: u8) -> Lane
+    ensures { λ r. ⌜ r ≡ says.fresh side ⌝ }
+{
+    Lane {
+        side,
+        state: State::NOT_CONNECTED,
+        offered: [0u8; 36],
+        running: [0u8; 36],
+    }
+}
+
+// The side that sends what `side` receives; 0 for an unknown one.
+fn other(side: u8) -> u8
+    ensures { λ r. ⌜ r ≡ says.other side ⌝ }
+{
+    match side {
+        Side::UPSTREAM => Side::DOWNSTREAM,
+        Side::DOWNSTREAM => Side::UPSTREAM,
+        _ => 0,
+    }
+}
+
+// The states in which a board is under way, and the running id in use.
+fn under_way(state: u8) -> bool
+    ensures { λ r. ⌜ r ≡ says.runningUsed state ⌝ }
+{
+    match state {
+        State::TRANSPORTING..=State::FINISHED => true,
+        _ => false,
+    }
+}
+
+fn same_id(a: [u8; 36], b: [u8; 36]) -> bool
+    ensures { λ r. ⌜ r ≡ says.sameId a b ⌝ }
+{
+    let mut i = 0;
+    while i < 36 {
+        if a[i] != b[i] {
+            return false;
+        }
+        i += 1;
+    }
+    true
+}
