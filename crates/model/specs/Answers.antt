@@ -197,7 +197,7 @@ module _ {s g x w : Bytes} (p : Behind s g x) (v : Window x w) where
       at true q = let k = leb-true MESSAGE (length w) q in omega arith
       at false q = omega (arith, ap length (v .all (leb-false MESSAGE (length w) q)), sizes, ap length e, length-append u r)
 
-  window-behind : Behind (g ++ w) g w
+  pub window-behind : Behind (g ++ w) g w
   window-behind = record { whole = refl; glue = p .glue; most = go w (subst (λ (y : Bytes). leads y ≡ false) (v .whole) (p .most)) }
     where
       go : (w : Bytes) → leads (w ++ v .rest) ≡ false → leads w ≡ false

@@ -8,10 +8,10 @@ use lib.ListN.{length, length-append}
 use lib.Dec.{eqb, leb}
 use borrow.Author.Tests.{leb-true, le-leb, not-true}
 use Rattle.exact.specs.Exact.{Lang, Reader, Exact, exact-like}
-use Rattle.exact.specs.Chain.{Map, mapped, mapP, map-exact, clash, If, yes-if, no-if, ifP, if-exact}
+use Rattle.exact.specs.Chain.{bindP, Map, mapped, mapP, map-exact, clash, If, yes-if, no-if, ifP, if-exact}
 use Rattle.exact.specs.Byte.{On, on, onP, on-exact, Lit, lit, litP, eqb-true, lit-exact, Alt, left, right, Starts, starts, lit-starts, on-starts, choiceP, choice-exact, more-starts, is-byte}
 use Rattle.exact.specs.Token.{TokenFrom, token, tokenP}
-use Rattle.exact.specs.Loop.{Turn, again, stop, Loop, last, next, loopP, loop-exact}
+use Rattle.exact.specs.Loop.{Turn, again, stop, Loop, last, next, onward, loopP, loop-eq, loop-exact}
 use Rattle.grammar.specs.Bytes.{Bytes, text, within, digit, every, some, among}
 use Rattle.grammar.specs.Limits.{ATTRIBUTES}
 use Rattle.grammar.specs.Glue.{isGlue, Glue}
@@ -79,11 +79,11 @@ pub record State : Type 0 where
 abbrev pub T : Type 0
 T = Turn State Head
 
-abbrev mk : State → (g n g₂ g₃ : Bytes) → ℕ → List Item → T
+abbrev pub mk : State → (g n g₂ g₃ : Bytes) → ℕ → List Item → T
 mk st g n g₂ g₃ q l =
     again (record { seen = n ∷ st .seen; build = λ r. st .build (record { before = g; name = n; mid = g₂; after = g₃; quote = q; value = l } ∷ r) })
 
-abbrev fin : State → Bytes → Bool → T
+abbrev pub fin : State → Bytes → Bool → T
 fin st g z = stop (record { attributes = st .build []; trail = g; empty = z })
 
 -- may: whether an empty tag is allowed
@@ -264,6 +264,10 @@ module _ (may : Bool) where
       from w h l =
           let g = follows [] (l .attributes .each) (l .attributes .fresh-names) (omega (arith, l .attributes .few)) in
           rw (l .spelt) (good-loop g (λ l. l) (h .trail) (h .empty) (l .allowed) (l .trail))
+
+  -- the unfolding equation, for code
+  pub head-eq : (st : State) (s : Bytes) → loopP turnP st s ≡ bindP (turnP st) (onward (loopP turnP)) s
+  head-eq st s = loop-eq (λ st. Unit {0}) (λ st u. turn-exact st) (λ st w st′ u l. tt) reads (λ st u. (62 ∷ [], _, ending st [] false (λ x. clash (sym x)) refl)) st tt s
 
 -- what stands behind a name starts with a byte that no name has
 head-first : (h : Head) → GoodEach (h .attributes) → Glue (h .trail) → Starts nameByte false (spellHead h)

@@ -66,7 +66,7 @@ cut-one {s} {g} {g′} (cut-piece {r} {p} {l} k m e c) (cut-piece {r = r′} {p 
     go q (i, j) = (cc, j)
 
 -- a message is read in front of any tail
-same-length : (u v x y : Bytes) → u ++ x ≡ v ++ y → length u ≡ length v → u ≡ v
+pub same-length : (u v x y : Bytes) → u ++ x ≡ v ++ y → length u ≡ length v → u ≡ v
 same-length [] [] x y e h = refl
 same-length [] (c ∷ v) x y e h = absurd (omega arith)
 same-length (b ∷ u) [] x y e h = absurd (omega arith)

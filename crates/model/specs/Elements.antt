@@ -102,7 +102,7 @@ record ContentL (d : ℕ) (n : Bytes) (w : Bytes) (t : Tail) : Type 0 where
   spelt : w ≡ spellContent (t .content) ++ spellEnd n (t .glue)
 
 -- behind filler f and `<`
-data TagL (n : Bytes) (k : Acc) (f : Filler) : ℕ → Bytes → ContentTurn → Type 0 where
+pub data TagL (n : Bytes) (k : Acc) (f : Filler) : ℕ → Bytes → ContentTurn → Type 0 where
   shutting : {d : ℕ} {w : Bytes} {t : ContentTurn} → CloseL n (shutTurn k f) w t → TagL n k f d w t
   opening : {d : ℕ} {w : Bytes} {t : ContentTurn} (e : Element) → IsElement d w e → t ≡ childTurn k f e → TagL n k f (suc d) w t
 
@@ -178,14 +178,14 @@ element-starts d w e l = go (element-first d w e l)
     go : Starts nameStart true w → Starts (eqb (code "/")) false w
     go (starts b w′ i k) = starts b w′ i (other nameStart (code "/") refl b k)
 
-leaf-tag-exact : (n : Bytes) (k : Acc) (f : Filler) → Exact (TagL n k f 0) (leafTagP n k f)
+pub leaf-tag-exact : (n : Bytes) (k : Acc) (f : Filler) → Exact (TagL n k f 0) (leafTagP n k f)
 unfolding leafTagP
 leaf-tag-exact n k f = exact-like (λ w v l. shutting l) from (close-exact n (shutTurn k f))
   where
     from : (w : Bytes) (v : ContentTurn) → TagL n k f 0 w v → CloseL n (shutTurn k f) w v
     from w v (shutting l) = l
 
-node-tag-exact : (d : ℕ) {elem : Reader Element} → Exact (IsElement d) elem → (n : Bytes) (k : Acc) (f : Filler) → Exact (TagL n k f (suc d)) (nodeTagP elem n k f)
+pub node-tag-exact : (d : ℕ) {elem : Reader Element} → Exact (IsElement d) elem → (n : Bytes) (k : Acc) (f : Filler) → Exact (TagL n k f (suc d)) (nodeTagP elem n k f)
 unfolding nodeTagP
 node-tag-exact d x n k f =
     exact-like to from
@@ -267,7 +267,7 @@ module _ (d : ℕ) (n : Bytes) (tag : Acc → Filler → Reader ContentTurn) (ex
       from w t l = rw (l .spelt) (good-loop n (λ c. c) (t .glue) (l .glue) (l .good))
 
   -- the unfolding equation, for code
-  loop-content-eq : (k : Acc) (s : Bytes) → loopP (contentTurnP tag) k s ≡ bindP (contentTurnP tag k) (onward (loopP (contentTurnP tag))) s
+  pub loop-content-eq : (k : Acc) (s : Bytes) → loopP (contentTurnP tag) k s ≡ bindP (contentTurnP tag k) (onward (loopP (contentTurnP tag))) s
   loop-content-eq k s = loop-eq (λ k. Unit {0}) (λ k u. turn-exact k) (λ k w k′ u l. tt) (reads d n) (λ k u. (_, _, ending d n k (record { glue = [] }) [] (record { glue = refl }) refl)) k tt s
 
 -- every depth

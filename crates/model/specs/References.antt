@@ -16,7 +16,7 @@ use Rattle.exact.specs.Token.{TokenFrom, token, tokenP, token-exact}
 use Rattle.grammar.specs.Bytes.{Bytes, text, within, digit, every, some, fits}
 use Rattle.grammar.specs.Character.{isChar}
 use Rattle.grammar.specs.Reference.{Named, amp, lt, gt, quot, apos, Reference, named, decimal, hexadecimal, spellNamed, spellReference, hexDigit, worth, number, Digits, GoodReference, good-named, good-decimal, good-hexadecimal}
-use Rattle.model.specs.Tests.{and-left, and-right, and-both, or-cases, or-right, in-range, every-left, every-append, every-snoc, every-last, uncons}
+use Rattle.model.specs.Tests.{in-range, and-left, and-right, and-both, or-cases, or-right, every-left, every-append, every-snoc, every-last, uncons}
 use Rattle.model.specs.Characters.{View, control, low, mid, high, view, char-low, char-mid, char-high, char-max}
 
 -- digits that name a character, then `;`
@@ -83,7 +83,7 @@ pub data Alive (edge top j v : ℕ) : Type 0 where
   later : 2 ≤ j → v ≤ top → Alive edge top j v
 
 module _ (edge top j v : ℕ) where
-  alive-view : alive edge top j v ≡ true → Alive edge top j v
+  pub alive-view : alive edge top j v ≡ true → Alive edge top j v
   unfolding alive
   alive-view h = go (or-cases _ _ h)
     where
@@ -103,7 +103,7 @@ module _ (edge top j v : ℕ) where
   of-alive (soon a b c) = or-right (isChar v) _ (rw (le-leb 1 j a, le-leb v top b, c))
   of-alive (later a b) = let a′ : 1 ≤ j = omega arith in or-right (isChar v) _ (rw (le-leb 1 j a′, le-leb v top b, le-leb 2 j a) (or-right (not (eqb edge v)) true refl))
 
-number-append : (base v : ℕ) (n m : Bytes) → number base v (n ++ m) ≡ number base (number base v n) m
+pub number-append : (base v : ℕ) (n m : Bytes) → number base v (n ++ m) ≡ number base (number base v n) m
 number-append base v [] m = refl
 number-append base v (b ∷ n) m = number-append base (v * base + worth b) n m
 
@@ -256,7 +256,7 @@ module _ (cls : ℕ → Bool) (base edge top : ℕ)
                 grown i 48 refl (zero-digit .0) (rw q (soon a′ inside apart))
 
 -- decimal, at most 7; 2 with one digit more is 20 to 29
-dec-digit : (b : ℕ) → digit b ≡ true → worth b ≤ 9
+pub dec-digit : (b : ℕ) → digit b ≡ true → worth b ≤ 9
 unfolding digit worth
 dec-digit b h = let z = in-range 48 57 b h in rw (le-leb b 57 (z .1)) (omega arith)
 
@@ -309,7 +309,7 @@ unfolding decimalBegun isChar within digit worth
 decimal-open = number-open digit 10 7 2 111411 dec-step dec-grow (soon (omega arith) (omega arith) refl) refl
 
 -- hexadecimal, at most 6; 1 with one digit more is 10 to 1F
-hex-digit : (b : ℕ) → hexDigit b ≡ true → worth b ≤ 15
+pub hex-digit : (b : ℕ) → hexDigit b ≡ true → worth b ≤ 15
 unfolding hexDigit digit worth
 hex-digit b h = go (or-cases _ _ h)
   where

@@ -60,7 +60,7 @@ plain-q q (inl e) = rw e
 plain-q q (inr e) = rw e
 
 -- a reference starts with `&`
-amp-first : (r : Reference) → (w : Bytes) × (spellReference r ≡ code "&" ∷ w)
+pub amp-first : (r : Reference) → (w : Bytes) × (spellReference r ≡ code "&" ∷ w)
 amp-first (named n) = (_, refl)
 amp-first (decimal n) = (_, refl)
 amp-first (hexadecimal n) = (_, refl)

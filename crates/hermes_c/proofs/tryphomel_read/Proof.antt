@@ -1,0 +1,46 @@
+-- The numbers that C is handed are those of the answer.
+use Rattle.hermes_c.proofs.Numbers.{told}
+use borrow.Author.Needs.{needs}
+use Rattle.hermes_c.proofs.tryphomel_read.Statement.{statement}
+use Rattle.hermes_c.proofs.tryphomel_read.Tie as tie
+
+read-requires : tie.Need-read-requires
+read-requires c κs = search needs
+
+enum-known-answer : tie.Need-enum-known-answer
+enum-known-answer c = search needs
+
+enum-known-answer-2 : tie.Need-enum-known-answer-2
+enum-known-answer-2 c = search needs
+
+enum-known-answer-3 : tie.Need-enum-known-answer-3
+enum-known-answer-3 c = search needs
+
+enum-known-answer-4 : tie.Need-enum-known-answer-4
+enum-known-answer-4 c = search needs
+
+returns : tie.Need-returns
+returns c = told _ _ _ (c .before .answer .given .1) (c .before .before .before .read .ensures)
+
+returns-2 : tie.Need-returns-2
+returns-2 c = told _ _ _ (c .before .answer2 .given .1) (c .before .before .before .read .ensures)
+
+returns-3 : tie.Need-returns-3
+returns-3 c = told _ _ _ (c .before .answer3 .given .1) (c .before .before .before .read .ensures)
+
+returns-4 : tie.Need-returns-4
+returns-4 c = told _ _ _ (c .before .answer4 .given .1) (c .before .before .before .read .ensures)
+
+pub tryphomel-read-spec : {M : Type 1} → statement M
+tryphomel-read-spec =
+    tie.close
+    (tie.spec
+    read-requires
+    enum-known-answer
+    enum-known-answer-2
+    enum-known-answer-3
+    enum-known-answer-4
+    returns
+    returns-2
+    returns-3
+    returns-4)

@@ -1,0 +1,11 @@
+pub mod Tests
+pub mod Trim
+pub mod IntLaws
+pub mod Powers
+pub mod NumberLaws
+pub mod GuidLaws
+pub mod VersionLaws
+pub mod Theorems
+pub mod Picks
+pub mod Classes
+pub mod CodeLaws

@@ -1,0 +1,372 @@
+-- `number-exact`: the steps of a positive number say what the definition says. `tail k n g` is the answer behind the point, with k places
+-- left and n written so far; it is shown equal to the steps (induction on the bytes left), and to the definition (induction on the digits).
+use mathlib.Core.Path.{_≡_, refl, sym, ap, _∙_}
+use mathlib.Core.Bool.{Bool, true, false}
+use mathlib.Core.List.{[], _∷_, _++_}
+use Prim.Native.Nat.{ℕ, zero, suc, _+_, _-_, _*_, _^_, _≤_, _<_}
+use Prim.Native.Char.{code}
+use native.Mathlib.Omega.{arith}
+use native.Mathlib.Nat.{add-mul, le-mul-of-pos-right, mul-le-mul-right, mul-lt-mul-of-pos-right, mul-assoc, pow-le-pow-right}
+use native.Mathlib.Numerals.{add-one}
+use lib.Pow.{pow-add}
+use lib.Dec.{eqb, leb, ltb, leb·suc-suc, leb·suc-zero, leb·zero}
+use lib.ListN.{length}
+use borrow.Author.Tests.{eqb-true, eqb-false, lt-ltb, le-ltb, ltb-true, ltb-false, leb-true, le-leb, lt-leb}
+use Rattle.number.specs.Bytes.{Bytes, pick, and, digit, zeroDigit, figure, some, all, trim, dropFront, dropBack, keepBefore, valueFrom, value, before, behind}
+use Rattle.number.specs.Positive.{Number, noNumber, number, written, short, millionths, above, decimal, unsigned, parted, numberOf, numberRead, NumberRange}
+use Rattle.number.specs.Scan.{run, endsStep, inside, TOP, ZEROS, PLACES, joined, zeroMore, grown, beforeAs, afterAs, wholeDigit, partDigit, plusStep, startStep, beforeStep, numberBodyStep, limited, worth, numberBodyEnd, numberStep, numberEnd, NumberExact}
+use Rattle.number.specs.declared.ends.Ends.{Ends}
+use Rattle.number.specs.declared.positive.Grown.{Grown}
+use Rattle.number.specs.declared.positive.NumberBody.{NumberBody}
+use Rattle.number.proofs.Tests.{cases, never, and-left, and-right, and-false}
+use Rattle.number.proofs.Trim.{solid, body, trimmed, digits-solid, rest-blank, plus-solid, point-solid, digit-solid}
+use Rattle.number.proofs.Powers.{ten-pos, shift, in-front, front-le, value-lt, few}
+
+-- the answer behind the point
+unfoldable tail : ℕ → ℕ → Bytes → Number
+tail k n [] = limited (n * 10 ^ k)
+tail zero n (b ∷ g) = pick (digit b) (pick (zeroDigit b) (tail zero n g) noNumber) noNumber
+tail (suc k) n (b ∷ g) = pick (digit b) (tail k (10 * n + figure b) g) noNumber
+
+limited-big : (m : ℕ) → 10 ^ 13 ≤ m → limited m ≡ noNumber
+unfolding limited
+limited-big m h = rw (le-ltb m (10 ^ 13) h, and-false (ltb 0 m))
+
+-- a number of more than 13 digits stays none
+tail-big : (k n : ℕ) (g : Bytes) → 10 ^ 13 ≤ n → tail k n g ≡ noNumber
+unfolding tail
+tail-big k n [] h = limited-big (n * 10 ^ k) (let l : n ≤ n * 10 ^ k = le-mul-of-pos-right n (ten-pos k) in omega arith)
+tail-big zero n (b ∷ g) h =
+    cases (digit b) (λ d. cases (zeroDigit b) (λ z. rw (d, z) (tail-big zero n g h)) (λ z. rw (d, z))) (λ d. rw d)
+tail-big (suc k) n (b ∷ g) h =
+    cases (digit b) (λ d. rw d (tail-big k (10 * n + figure b) g (omega arith))) (λ d. rw d)
+
+-- the answer of the steps from a state
+abbrev ended : NumberBody → Bytes → Number
+ended s t = numberBodyEnd (run numberBodyStep s t)
+
+dead : (t : Bytes) → ended NumberBody.Dead t ≡ noNumber
+unfolding run numberBodyStep numberBodyEnd
+dead [] = refl
+dead (b ∷ t) = dead t
+
+-- one more digit: the number written so far grows by it, or has too many digits to be one
+data Grew : ℕ → Grown → Type 0 where
+  to : {m n z : ℕ} → n * 10 ^ z ≡ m → Grew m (Grown.To n z)
+  lost : {m : ℕ} → 10 ^ 13 ≤ m → Grew m Grown.Lost
+
+far-big : (n z : ℕ) → 0 < n → 13 ≤ z → 10 ^ 13 ≤ n * 10 ^ z
+far-big n z h l =
+    let more : 10 ^ 13 ≤ 10 ^ z = pow-le-pow-right (omega arith) l in
+    let own : 1 * 10 ^ z ≤ n * 10 ^ z = mul-le-mul-right (10 ^ z) h in
+    omega arith
+
+joined-is : (n z b : ℕ) → joined n z b ≡ 10 * (n * 10 ^ z) + figure b
+joined-is n z b = ap (λ (y : ℕ). n * 10 ^ y + figure b) (add-one z) ∙ ap (λ (y : ℕ). y + figure b) (shift n z ∙ mul-assoc 10 n (10 ^ z))
+
+all-zero : (n z b : ℕ) → n ≡ 0 → b ≡ 48 → 0 * 10 ^ 0 ≡ 10 * (n * 10 ^ z) + figure b
+all-zero n z b e o = rw (e, o) (omega arith)
+
+grew : (n z b : ℕ) → Grew (10 * (n * 10 ^ z) + figure b) (grown n z b)
+unfolding grown zeroMore
+grew n z b =
+    let j : n * 10 ^ (z + 1) + figure b ≡ 10 * (n * 10 ^ z) + figure b = joined-is n z b in
+    cases (zeroDigit b)
+    (λ o. cases (eqb n 0) (λ e. rw (o, e) (to (all-zero n z b (eqb-true n 0 e) (eqb-true b 48 o))))
+    (λ e. cases (ltb z ZEROS)
+    (λ l.
+    let m : n * 10 ^ (z + 1) ≡ 10 * (n * 10 ^ z) + figure b = omega (arith, eqb-true b 48 o) in
+    rw (o, e, l) (to m))
+    (λ l.
+    let f : 10 ^ 13 ≤ n * 10 ^ z = far-big n z (omega (arith, eqb-false n 0 e)) (omega (arith, ltb-false z ZEROS l)) in
+    let m : 10 ^ 13 ≤ 10 * (n * 10 ^ z) + figure b = omega arith in
+    rw (o, e, l) (lost m))))
+    (λ o. cases (ltb (joined n z b) TOP)
+    (λ l.
+    let m : joined n z b * 10 ^ 0 ≡ 10 * (n * 10 ^ z) + figure b = omega arith in
+    rw (o, l) (to m))
+    (λ l.
+    let m : 10 ^ 13 ≤ 10 * (n * 10 ^ z) + figure b = omega (arith, ltb-false (joined n z b) TOP l) in
+    rw (o, l) (lost m)))
+
+-- behind the sixth place with a digit above zero: never whole in millionths again
+spent : (p n z : ℕ) (g : Bytes) → z + 6 < p → ended (NumberBody.After n z p) g ≡ noNumber
+unfolding run numberBodyStep numberBodyEnd partDigit grown zeroMore afterAs worth
+spent p n z [] h = rw (lt-leb p (z + 6) h)
+spent p n z (b ∷ g) h =
+    cases (digit b)
+    (λ d. cases (ltb p PLACES)
+    (λ l. cases (zeroDigit b)
+    (λ o. cases (eqb n 0) (λ e. rw (d, l, o, e) (spent (p + 1) 0 0 g (omega arith)))
+    (λ e. cases (ltb z ZEROS) (λ y. rw (d, l, o, e, y) (spent (p + 1) n (z + 1) g (omega arith))) (λ y. rw (d, l, o, e, y) (dead g))))
+    (λ o. cases (ltb (joined n z b) TOP) (λ y. rw (d, l, o, y) (spent (p + 1) (joined n z b) 0 g (omega arith))) (λ y. rw (d, l, o, y) (dead g))))
+    (λ l. cases (zeroDigit b) (λ o. rw (d, l, o) (spent p n z g h)) (λ o. rw (d, l, o) (dead g))))
+    (λ d. rw d (dead g))
+
+-- nothing but zeros is none
+tail-none : (m : ℕ) (g : Bytes) → m ≡ 0 → tail 0 m g ≡ noNumber
+unfolding tail limited
+tail-none m [] h = rw h
+tail-none m (b ∷ g) h =
+    cases (digit b) (λ d. cases (zeroDigit b) (λ z. rw (d, z) (tail-none m g h)) (λ z. rw (d, z))) (λ d. rw d)
+
+-- the steps behind the sixth place, with only zeros there so far
+beyond : (p n z : ℕ) (g : Bytes) → 6 ≤ p → p ≤ z + 6 → ended (NumberBody.After n z p) g ≡ tail 0 (n * 10 ^ (z + 6 - p)) g
+unfolding run numberBodyStep numberBodyEnd partDigit grown zeroMore afterAs worth tail
+beyond p n z [] f h = rw (le-leb p (z + 6) h) (ap limited (omega arith))
+beyond p n z (b ∷ g) f h =
+    cases (digit b)
+    (λ d. cases (ltb p PLACES)
+    (λ l. cases (zeroDigit b)
+    (λ o. cases (eqb n 0)
+    (λ e. rw (d, l, o, e) (spent (p + 1) 0 0 g (omega arith) ∙ sym (tail-none (n * 10 ^ (z + 6 - p)) g (rw (eqb-true n 0 e) (omega arith)))))
+    (λ e. cases (ltb z ZEROS)
+    (λ y.
+    let same : z + 1 + 6 - (p + 1) ≡ z + 6 - p = omega arith in
+    rw (d, l, o, e, y) (beyond (p + 1) n (z + 1) g (omega arith) (omega arith) ∙ ap (λ (x : ℕ). tail 0 (n * 10 ^ x) g) same))
+    (λ y. rw (d, l, o, e, y)
+    (dead g ∙ sym (tail-big 0 (n * 10 ^ (z + 6 - p)) g (far-big n (z + 6 - p) (omega (arith, eqb-false n 0 e)) (omega (arith, ltb-false z ZEROS y, ltb-true p PLACES l))))))))
+    (λ o. cases (ltb (joined n z b) TOP) (λ y. rw (d, l, o, y) (spent (p + 1) (joined n z b) 0 g (omega arith))) (λ y. rw (d, l, o, y) (dead g))))
+    (λ l. cases (zeroDigit b) (λ o. rw (d, l, o) (beyond p n z g f h)) (λ o. rw (d, l, o) (dead g))))
+    (λ d. rw d (dead g))
+
+after-grown : (k p m : ℕ) (x : Grown) (g : Bytes) → Grew m x → ((n z : ℕ) → ended (NumberBody.After n z p) g ≡ tail k (n * 10 ^ z) g) → ended (afterAs p x) g ≡ tail k m g
+unfolding afterAs
+after-grown k p m (Grown.To n z) g (to e) rest = rest n z ∙ ap (λ (y : ℕ). tail k y g) e
+after-grown k p m Grown.Lost g (lost l) rest = dead g ∙ sym (tail-big k m g l)
+
+-- the steps behind the point, with p places used and k left
+after : (k p n z : ℕ) (g : Bytes) → p + k ≡ 6 → ended (NumberBody.After n z p) g ≡ tail k (n * 10 ^ z) g
+unfolding run numberBodyStep numberBodyEnd partDigit worth tail
+after k p n z [] e =
+    let used : z + 6 - p ≡ z + k = omega arith in
+    let spread : n * 10 ^ (z + 6 - p) ≡ n * 10 ^ z * 10 ^ k = ap (λ (y : ℕ). n * 10 ^ y) used ∙ ap (λ (y : ℕ). n * y) (pow-add 10 z k) ∙ sym (mul-assoc n (10 ^ z) (10 ^ k)) in
+    rw (le-leb p (z + 6) (omega arith)) (ap limited spread)
+after zero p n z (b ∷ g) e =
+    let used : z + 6 - p ≡ z = omega arith in
+    beyond p n z (b ∷ g) (omega arith) (omega arith) ∙ ap (λ (y : ℕ). tail 0 (n * 10 ^ y) (b ∷ g)) used
+after (suc k) p n z (b ∷ g) e =
+    let room : ltb p PLACES ≡ true = lt-ltb p PLACES (omega arith) in
+    cases (digit b)
+    (λ d. rw (d, room) (after-grown k (p + 1) (10 * (n * 10 ^ z) + figure b) (grown n z b) g (grew n z b) (λ n' z'. after k (p + 1) n' z' g (omega arith))))
+    (λ d. rw d (dead g))
+
+-- the answer behind digits before the point, which write m
+abbrev headed : ℕ → Bytes → Number
+headed m u = pick (all digit (before u)) (tail 6 (valueFrom m (before u)) (behind u)) noNumber
+
+headed-big : (m : ℕ) (u : Bytes) → 10 ^ 13 ≤ m → headed m u ≡ noNumber
+headed-big m u h =
+    let l : m ≤ valueFrom m (before u) = front-le m (before u) in
+    cases (all digit (before u)) (λ d. rw d (tail-big 6 (valueFrom m (before u)) (behind u) (omega arith))) (λ d. rw d)
+
+before-grown : (m : ℕ) (x : Grown) (u : Bytes) → Grew m x → ((n z : ℕ) → ended (NumberBody.Before n z) u ≡ headed (n * 10 ^ z) u) → ended (beforeAs x) u ≡ headed m u
+unfolding beforeAs
+before-grown m (Grown.To n z) u (to e) rest = rest n z ∙ ap (λ (y : ℕ). headed y u) e
+before-grown m Grown.Lost u (lost l) rest = dead u ∙ sym (headed-big m u l)
+
+-- the steps behind digits before the point
+whole : (n z : ℕ) (u : Bytes) → ended (NumberBody.Before n z) u ≡ headed (n * 10 ^ z) u
+unfolding run numberBodyStep numberBodyEnd beforeStep wholeDigit all before behind valueFrom
+whole n z [] = after 6 0 n z [] refl
+whole n z (b ∷ u) =
+    cases (eqb b (code ".")) (λ p. rw p (after 6 0 n z u refl))
+    (λ p. cases (digit b)
+    (λ d. rw (p, d) (before-grown (10 * (n * 10 ^ z) + figure b) (grown n z b) u (grew n z b) (λ n' z'. whole n' z' u)))
+    (λ d. rw (p, d) (dead u)))
+
+-- what is left of the digits behind the point, and its value with k places
+abbrev cut : Bytes → Bytes
+cut g = dropBack zeroDigit g
+
+abbrev part : ℕ → Bytes → ℕ
+part k x = value x * 10 ^ (k - length x)
+
+abbrev fits : ℕ → ℕ → Bytes → Bool → Number
+fits k n x ok = pick (and ok (leb (length x) k)) (limited (n * 10 ^ k + part k x)) noNumber
+
+carry : (k n d v l : ℕ) → l ≤ k → (10 * n + d) * 10 ^ k + v * 10 ^ (k - l) ≡ n * 10 ^ suc k + (d * 10 ^ l + v) * 10 ^ (k - l)
+carry k n d v l h =
+    let front : (10 * n + d) * 10 ^ k ≡ (10 * n) * 10 ^ k + d * 10 ^ k = add-mul (10 * n) d (10 ^ k) in
+    let up : n * 10 ^ suc k ≡ (10 * n) * 10 ^ k = shift n k in
+    let spread : (d * 10 ^ l + v) * 10 ^ (k - l) ≡ (d * 10 ^ l) * 10 ^ (k - l) + v * 10 ^ (k - l) = add-mul (d * 10 ^ l) v (10 ^ (k - l)) in
+    let joined : 10 ^ l * 10 ^ (k - l) ≡ 10 ^ k = sym (pow-add 10 l (k - l)) ∙ ap (λ (y : ℕ). 10 ^ y) (omega arith) in
+    let moved : (d * 10 ^ l) * 10 ^ (k - l) ≡ d * 10 ^ k = mul-assoc d (10 ^ l) (10 ^ (k - l)) ∙ ap (λ (y : ℕ). d * y) joined in
+    omega arith
+
+-- a digit in front of what is left
+cons-part : (k n b : ℕ) (x : Bytes) → length x ≤ k → (10 * n + figure b) * 10 ^ k + part k x ≡ n * 10 ^ suc k + part (suc k) (b ∷ x)
+unfolding valueFrom
+cons-part k n b x l =
+    carry k n (figure b) (value x) (length x) l
+    ∙ ap (λ (y : ℕ). n * 10 ^ suc k + y * 10 ^ (k - length x))
+    (sym (in-front (figure b) x) ∙ ap (λ (y : ℕ). valueFrom y x) (omega arith))
+    ∙ ap (λ (y : ℕ). n * 10 ^ suc k + value (b ∷ x) * 10 ^ y) (omega arith)
+
+-- one more place: what is left is a digit longer, or nothing is left and the digit is zero
+cons-fits : (k n b : ℕ) (x : Bytes) (ok : Bool) → fits k (10 * n + figure b) x ok ≡ fits (suc k) n (b ∷ x) ok
+cons-fits k n b x false = refl
+cons-fits k n b x true =
+    rw (leb·suc-suc (length x) k)
+    (cases (leb (length x) k) (λ l. rw l (ap limited (cons-part k n b x (leb-true (length x) k l)))) (λ l. rw l))
+
+nil-fits : (k n b : ℕ) (ok : Bool) → zeroDigit b ≡ true → fits k (10 * n + figure b) [] ok ≡ fits (suc k) n [] ok
+unfolding valueFrom
+nil-fits k n b false z = refl
+nil-fits k n b true z =
+    rw (leb·zero k, leb·zero (suc k), eqb-true b 48 z)
+    (ap limited (let up : n * 10 ^ suc k ≡ (10 * n) * 10 ^ k = shift n k in omega arith))
+
+more-place : (k n b : ℕ) (x : Bytes) (ok : Bool) → fits k (10 * n + figure b) x ok ≡ fits (suc k) n (keepBefore zeroDigit b x) ok
+unfolding keepBefore
+more-place k n b [] ok = cases (zeroDigit b) (λ z. rw z (nil-fits k n b ok z)) (λ z. rw z (cons-fits k n b [] ok))
+more-place k n b (c ∷ x) ok = cons-fits k n b (c ∷ x) ok
+
+-- no place left: a digit above zero, or anything left behind, is too much
+no-place : (n b : ℕ) (x : Bytes) (ok : Bool) → pick (zeroDigit b) (fits 0 n x ok) noNumber ≡ fits 0 n (keepBefore zeroDigit b x) ok
+unfolding keepBefore
+no-place n b [] ok = cases (zeroDigit b) (λ z. rw z) (λ z. rw (z, leb·suc-zero 0, and-false ok))
+no-place n b (c ∷ x) ok = rw (leb·suc-zero (length x), leb·suc-zero (suc (length x)), and-false ok) (pick-same (zeroDigit b))
+  where
+    pick-same : (t : Bool) → pick t noNumber noNumber ≡ noNumber
+    pick-same true = refl
+    pick-same false = refl
+
+-- the answer behind the point is the definition's
+tail-fits : (k n : ℕ) (g : Bytes) → tail k n g ≡ fits k n (cut g) (all digit g)
+unfolding tail all dropBack valueFrom
+tail-fits k n [] = rw (leb·zero k) (ap limited (omega arith))
+tail-fits zero n (b ∷ g) =
+    cases (digit b) (λ d. rw d (ap (λ (x : Number). pick (zeroDigit b) x noNumber) (tail-fits zero n g) ∙ no-place n b (cut g) (all digit g))) (λ d. rw d)
+tail-fits (suc k) n (b ∷ g) =
+    cases (digit b) (λ d. rw d (tail-fits k (10 * n + figure b) g ∙ more-place k n b (cut g) (all digit g))) (λ d. rw d)
+
+-- "at most 7 digits before the point" is a limit on the millionths, since what stands behind the point is less than one
+part-lt : (k : ℕ) (x : Bytes) → all digit x ≡ true → length x ≤ k → part k x < 10 ^ k
+part-lt k x d l =
+    let less : value x * 10 ^ (k - length x) < 10 ^ length x * 10 ^ (k - length x) = mul-lt-mul-of-pos-right (value-lt x d) (ten-pos (k - length x)) in
+    let joined : 10 ^ length x * 10 ^ (k - length x) ≡ 10 ^ k = sym (pow-add 10 (length x) (k - length x)) ∙ ap (λ (y : ℕ). 10 ^ y) (omega arith) in
+    omega arith
+
+keep-digits : (b : ℕ) (x : Bytes) → digit b ≡ true → all digit x ≡ true → all digit (keepBefore zeroDigit b x) ≡ true
+unfolding keepBefore all
+keep-digits b [] d h = cases (zeroDigit b) (λ z. rw z) (λ z. rw (z, d))
+keep-digits b (c ∷ x) d h = rw d h
+
+cut-digits : (g : Bytes) → all digit g ≡ true → all digit (cut g) ≡ true
+unfolding dropBack all
+cut-digits [] h = refl
+cut-digits (b ∷ g) h = keep-digits b (cut g) (and-left (digit b) (all digit g) h) (cut-digits g (and-right (digit b) (all digit g) h))
+
+limit-front : (f g : Bytes) → all digit f ≡ true → all digit g ≡ true → length (cut g) ≤ 6 → leb (length (dropFront zeroDigit f)) 7 ≡ ltb (value f * 10 ^ 6 + part 6 (cut g)) (10 ^ 13)
+limit-front f g df dg l =
+    let less : part 6 (cut g) < 10 ^ 6 = part-lt 6 (cut g) (cut-digits g dg) l in
+    few 7 f df
+    ∙ cases (ltb (value f) (10 ^ 7)) (λ y. y ∙ sym (lt-ltb (value f * 10 ^ 6 + part 6 (cut g)) (10 ^ 13) (omega (arith, ltb-true (value f) (10 ^ 7) y))))
+    (λ n. n ∙ sym (le-ltb (value f * 10 ^ 6 + part 6 (cut g)) (10 ^ 13) (omega (arith, ltb-false (value f) (10 ^ 7) n))))
+
+swap : (a b : Bool) (x : Number) → pick (and a b) x noNumber ≡ pick (and (and b true) a) x noNumber
+swap true true x = refl
+swap true false x = refl
+swap false true x = refl
+swap false false x = refl
+
+-- the definition's answer, where a digit is there
+decimal-tail : (f g : Bytes) → some (f ++ g) ≡ true → pick (all digit f) (tail 6 (value f) g) noNumber ≡ decimal f g
+unfolding decimal written short above millionths limited
+decimal-tail f g s =
+    cases (all digit f)
+    (λ df. cases (all digit g)
+    (λ dg. cases (leb (length (cut g)) 6)
+    (λ l. rw (df, tail-fits 6 (value f) g, dg, l, s, limit-front f g df dg (leb-true (length (cut g)) 6 l))
+    (swap (ltb 0 (value f * 10 ^ 6 + part 6 (cut g))) (ltb (value f * 10 ^ 6 + part 6 (cut g)) (10 ^ 13)) (number (value f * 10 ^ 6 + part 6 (cut g)))))
+    (λ l. rw (df, tail-fits 6 (value f) g, dg, l, s, and-false (leb (length (dropFront zeroDigit f)) 7))))
+    (λ dg. rw (df, tail-fits 6 (value f) g, dg)))
+    (λ df. rw df)
+
+from-point : (u : Bytes) → ended NumberBody.Point u ≡ decimal [] u
+unfolding run numberBodyStep numberBodyEnd decimal written all some valueFrom
+from-point [] = refl
+from-point (b ∷ u) = after 6 0 0 0 (b ∷ u) refl ∙ decimal-tail [] (b ∷ u) refl
+
+from-plus : (u : Bytes) → ended NumberBody.Plus u ≡ parted u
+unfolding run numberBodyStep numberBodyEnd plusStep beforeStep parted decimal written all some before behind
+from-plus [] = refl
+from-plus (b ∷ u) =
+    cases (eqb b (code ".")) (λ p. rw p (from-point u))
+    (λ p. rw p (rw p at (whole 0 0 (b ∷ u)) ∙ decimal-tail (b ∷ before u) (behind u) refl))
+
+from-start : (t : Bytes) → ended NumberBody.Start t ≡ parted (unsigned t)
+unfolding run numberBodyStep numberBodyEnd startStep unsigned
+from-start [] = from-plus []
+from-start (b ∷ t) =
+    cases (eqb b (code "+")) (λ p. rw p (from-plus t)) (λ p. rw p (from-plus (b ∷ t)))
+
+-- a blank among the bytes is no digit, no point and no plus
+blank-parts : (u : Bytes) → all solid u ≡ false → and (all digit (before u)) (all digit (behind u)) ≡ false
+unfolding all before behind
+blank-parts [] h = never refl h
+blank-parts (b ∷ u) h =
+    cases (eqb b (code ".")) (λ p. rw p (digits-solid u (rest-blank b u (point-solid b p) h)))
+    (λ p. cases (digit b) (λ d. rw (p, d) (blank-parts u (rest-blank b u (digit-solid b d) h))) (λ d. rw (p, d)))
+
+and-both : (a b c : Bool) → and a b ≡ false → and a (and b c) ≡ false
+and-both true true c h = never refl h
+and-both true false c h = refl
+and-both false b c h = refl
+
+blank-parted : (u : Bytes) → all solid u ≡ false → parted u ≡ noNumber
+unfolding parted decimal written
+blank-parted u h = rw (and-both (all digit (before u)) (all digit (behind u)) (some (before u ++ behind u)) (blank-parts u h))
+
+blank-unsigned : (t : Bytes) → all solid t ≡ false → parted (unsigned t) ≡ noNumber
+unfolding unsigned
+blank-unsigned [] h = blank-parted [] h
+blank-unsigned (b ∷ t) h =
+    cases (eqb b (code "+")) (λ p. rw p (blank-parted t (rest-blank b t (plus-solid b p) h))) (λ p. rw p (blank-parted (b ∷ t) h))
+
+clear : (t : Bytes) → pick (all solid t) (parted (unsigned t)) noNumber ≡ parted (unsigned t)
+clear t = cases (all solid t) (λ h. rw h) (λ h. rw (h, blank-unsigned t h))
+
+-- the scan is the two parts of its record, each after the same bytes
+apart : (e : Ends) (s : NumberBody) (w : Bytes) → run numberStep (record { ends = e; body = s }) w ≡ record { ends = run endsStep e w; body = body numberBodyStep e s w }
+unfolding run numberStep body
+apart e s [] = refl
+apart e s (b ∷ w) = apart (endsStep e b) (pick (inside (endsStep e b)) (numberBodyStep s b) s) w
+
+pub number-exact : NumberExact
+unfolding numberEnd numberOf
+number-exact w =
+    ap numberEnd (apart Ends.Front NumberBody.Start w)
+    ∙ ap numberRead
+    (trimmed numberBodyStep noNumber numberBodyEnd NumberBody.Start w
+    ∙ ap (λ (x : Number). pick (all solid (trim w)) x noNumber) (from-start (trim w))
+    ∙ clear (trim w))
+
+-- an accepted number kept both limits
+picked : (t : Bool) (m n : ℕ) → pick t (number m) noNumber ≡ number n → (t ≡ true) × (m ≡ n)
+picked true m n h = (refl, cc)
+picked false m n h = absurd (let z : _≡_ {A = ℕ} 0 1 = cc in omega arith)
+
+limits : (f g : Bytes) → and (written f g) (and (short f g) (above f g)) ≡ true → (0 < millionths f g) × (millionths f g < 10 ^ 13)
+unfolding written short above millionths
+limits f g h =
+    let w : written f g ≡ true = and-left (written f g) (and (short f g) (above f g)) h in
+    let r : and (short f g) (above f g) ≡ true = and-right (written f g) (and (short f g) (above f g)) h in
+    let s : short f g ≡ true = and-left (short f g) (above f g) r in
+    let df : all digit f ≡ true = and-left (all digit f) (and (all digit g) (some (f ++ g))) w in
+    let dg : all digit g ≡ true = and-left (all digit g) (some (f ++ g)) (and-right (all digit f) (and (all digit g) (some (f ++ g))) w) in
+    let lf : leb (length (dropFront zeroDigit f)) 7 ≡ true = and-left (leb (length (dropFront zeroDigit f)) 7) (leb (length (cut g)) 6) s in
+    let lg : leb (length (cut g)) 6 ≡ true = and-right (leb (length (dropFront zeroDigit f)) 7) (leb (length (cut g)) 6) s in (
+      ltb-true 0 (millionths f g) (and-right (short f g) (above f g) r),
+      ltb-true (millionths f g) (10 ^ 13) (sym (limit-front f g df dg (leb-true (length (cut g)) 6 lg)) ∙ lf),
+    )
+
+pub number-range : NumberRange
+unfolding numberOf parted decimal
+number-range v n h =
+    let f = before (unsigned (trim v)) in
+    let g = behind (unsigned (trim v)) in
+    let p : (and (written f g) (and (short f g) (above f g)) ≡ true) × (millionths f g ≡ n) = picked (and (written f g) (and (short f g) (above f g))) (millionths f g) n h in
+    let l : (0 < millionths f g) × (millionths f g < 10 ^ 13) = limits f g (p .0) in
+    (omega (arith, p .1, l .0), omega (arith, p .1, l .1))

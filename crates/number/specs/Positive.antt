@@ -1,0 +1,63 @@
+-- Positive number: what a byte string is worth as a decimal above zero.
+use Prim.Native.Nat.{ℕ, _+_, _-_, _*_, _^_, _≤_}
+use Prim.Native.Char.{code}
+use mathlib.Core.Path.{_≡_}
+use mathlib.Core.Bool.{Bool, true, false}
+use mathlib.Core.List.{[], _∷_, _++_}
+use lib.Dec.{eqb, leb, ltb}
+use lib.ListN.{length}
+use Rattle.number.specs.Bytes.{Bytes, pick, and, digit, zeroDigit, some, all, trim, dropFront, dropBack, value, before, behind}
+use Rattle.number.specs.declared.positive.NumberRead.{NumberRead}
+
+-- "at most 7 digits before the point", "at most 6 behind it"
+abbrev pub BEFORE : ℕ
+BEFORE = 7
+
+abbrev pub BEHIND : ℕ
+BEHIND = 6
+
+-- no positive number; or one, with its millionths
+pub data Number : Type 0 where
+  noNumber : Number
+  number : ℕ → Number
+
+-- "digits with at most one point, at least one digit": what stands before the point and what behind it
+unfoldable pub written : Bytes → Bytes → Bool
+written f g = and (all digit f) (and (all digit g) (some (f ++ g)))
+
+-- "After leading zeros are dropped, at most 7 digits before the point; after trailing zeros are dropped, at most 6 behind it"
+unfoldable pub short : Bytes → Bytes → Bool
+short f g = and (leb (length (dropFront zeroDigit f)) BEFORE) (leb (length (dropBack zeroDigit g)) BEHIND)
+
+-- "Its value is the whole number of millionths."
+unfoldable pub millionths : Bytes → Bytes → ℕ
+millionths f g =
+    value f * 10 ^ BEHIND + value (dropBack zeroDigit g) * 10 ^ (BEHIND - length (dropBack zeroDigit g))
+
+-- "above zero"
+unfoldable pub above : Bytes → Bytes → Bool
+above f g = ltb 0 (millionths f g)
+
+unfoldable pub decimal : Bytes → Bytes → Number
+decimal f g = pick (and (written f g) (and (short f g) (above f g))) (number (millionths f g)) noNumber
+
+-- "optional `+`"
+unfoldable pub unsigned : Bytes → Bytes
+unsigned [] = []
+unsigned (b ∷ s) = pick (eqb b (code "+")) s (b ∷ s)
+
+unfoldable pub parted : Bytes → Number
+parted s = decimal (before s) (behind s)
+
+-- "Positive number: optional `+`, digits with at most one point ..", blanks at the ends dropped
+unfoldable pub numberOf : Bytes → Number
+numberOf v = parted (unsigned (trim v))
+
+-- what the limits leave: one millionth, up to seven digits before the point and six behind it
+abbrev pub NumberRange : Type 0
+NumberRange = (v : Bytes) (n : ℕ) → numberOf v ≡ number n → (1 ≤ n) × (n ≤ 9999999999999)
+
+-- the answer that tells it
+unfoldable pub numberRead : Number → NumberRead
+numberRead noNumber = record { ok = false; millionths = 0 }
+numberRead (number n) = record { ok = true; millionths = n }

@@ -1,0 +1,65 @@
+-- `declaration` meets its contract: `xml`, some glue, the version and what follows, one law for each return.
+use native.Mathlib.Omega.{arith}
+use mathlib.Core.List.{[]}
+use Rattle.scan.proofs.Chain.{known, known-tok}
+use Rattle.reader.proofs.declaration.Laws.{known-setting, declaration-name-fails, declaration-glue-fails, declaration-unspaced, declaration-version-fails, declaration-read}
+use borrow.Author.Needs.{needs}
+use Rattle.reader.proofs.declaration.declaration.Statement.{statement}
+use Rattle.reader.proofs.declaration.declaration.Tie as tie
+
+slice-aggregate-literal : tie.Need-slice-aggregate-literal
+slice-aggregate-literal c = search needs
+
+literal-requires : tie.Need-literal-requires
+literal-requires c κs = search needs
+
+enum-known-r : tie.Need-enum-known-r
+enum-known-r c = search needs
+
+returns : tie.Need-returns
+returns c = declaration-name-fails _ _ (c .match .keys2) (c .before .literal .ensures)
+
+glue-requires : tie.Need-glue-requires
+glue-requires c κs = let g = known (c .before .r .given .1) (c .before .before .before .literal .ensures) in omega arith
+
+enum-known-r-2 : tie.Need-enum-known-r-2
+enum-known-r-2 c = search needs
+
+returns-2 : tie.Need-returns-2
+returns-2 c = declaration-glue-fails _ _ _ (known (c .before .before .before .r .given .1) (c .before .before .before .before .before .literal .ensures)) (c .match2 .keys2) (c .before .glue .ensures)
+
+returns-3 : tie.Need-returns-3
+returns-3 c = declaration-unspaced _ _ _ (known (c .before .before .before .before .before .before .r .given .1) (c .before .before .before .before .before .before .before .before .literal .ensures)) _ (known-tok (c .before .before .r2 .given .1) (c .before .before .before .before .glue .ensures)) (c .if1 .taken)
+
+version-requires : tie.Need-version-requires
+version-requires c κs = let g = known-tok (c .before .before .r2 .given .1) (c .before .before .before .before .glue .ensures) in omega arith
+
+enum-known-r-3 : tie.Need-enum-known-r-3
+enum-known-r-3 c = search needs
+
+returns-4 : tie.Need-returns-4
+returns-4 c = declaration-version-fails _ _ _ (known (c .before .before .before .before .before .before .before .before .r .given .1) (c .before .before .before .before .before .before .before .before .before .before .literal .ensures)) _ (known-tok (c .before .before .before .before .r2 .given .1) (c .before .before .before .before .before .before .glue .ensures)) (c .before .before .if1 .left) (c .match3 .keys2) (c .before .version .ensures)
+
+behind-version-requires : tie.Need-behind-version-requires
+behind-version-requires c κs = let g = known-setting (c .before .r3 .given .1) (c .before .before .before .version .ensures) .says [] in omega arith
+
+returns-5 : tie.Need-returns-5
+returns-5 c = declaration-read _ _ _ (known (c .before .before .before .before .before .before .before .before .before .before .before .r .given .1) (c .before .before .before .before .before .before .before .before .before .before .before .before .before .literal .ensures)) _ (known-tok (c .before .before .before .before .before .before .before .r2 .given .1) (c .before .before .before .before .before .before .before .before .before .glue .ensures)) (c .before .before .before .before .before .if1 .left) (known-setting (c .before .before .r3 .given .1) (c .before .before .before .before .version .ensures)) (c .behind-version .ensures)
+
+pub declaration-spec : {M : Type 1} → statement M
+declaration-spec =
+    tie.close
+    (tie.spec
+    slice-aggregate-literal
+    literal-requires
+    enum-known-r
+    returns
+    glue-requires
+    enum-known-r-2
+    returns-2
+    returns-3
+    version-requires
+    enum-known-r-3
+    returns-4
+    behind-version-requires
+    returns-5)

@@ -1,0 +1,56 @@
+-- `declared` meets its contract: the declaration, filler and the root, one law for each return.
+use native.Mathlib.Omega.{arith}
+use Rattle.grammar.specs.Filler.{prolog}
+use Rattle.scan.proofs.Chain.{known}
+use Rattle.reader.specs.Outline.{childOf}
+use Rattle.reader.specs.Message.{declaredLead}
+use Rattle.reader.proofs.elements.Laws.{known-filler}
+use Rattle.reader.proofs.message.Laws.{inner-fails, declared-fails, declared-filler-fails, declared-read}
+use borrow.Author.Needs.{needs}
+use Rattle.reader.proofs.message.declared.Statement.{statement}
+use Rattle.reader.proofs.message.declared.Tie as tie
+
+declaration-requires : tie.Need-declaration-requires
+declaration-requires c κs = search needs
+
+enum-known-r : tie.Need-enum-known-r
+enum-known-r c = search needs
+
+without-requires : tie.Need-without-requires
+without-requires c κs = search needs
+
+returns : tie.Need-returns
+returns c = inner-fails childOf declaredLead _ _ _ _ (c .without .ensures) (c .before .match .keys2) (declared-fails _ _ (c .before .match .keys2) (c .before .before .declaration .ensures))
+
+filler-lt-requires : tie.Need-filler-lt-requires
+filler-lt-requires c κs = let g = known (c .before .r .given .1) (c .before .before .before .declaration .ensures) in omega arith
+
+enum-known-r-2 : tie.Need-enum-known-r-2
+enum-known-r-2 c = search needs
+
+without-requires-2 : tie.Need-without-requires-2
+without-requires-2 c κs = search needs
+
+returns-2 : tie.Need-returns-2
+returns-2 c = inner-fails childOf declaredLead _ _ _ _ (c .without2 .ensures) (c .before .match2 .keys2) (declared-filler-fails _ _ _ (known (c .before .before .before .before .r .given .1) (c .before .before .before .before .before .before .declaration .ensures)) (c .before .match2 .keys2) (c .before .before .filler-lt .ensures))
+
+root-requires : tie.Need-root-requires
+root-requires c κs = let g = known-filler (c .before .before .r2 .given .1) (c .before .before .before .before .filler-lt .ensures) prolog in omega arith
+
+returns-3 : tie.Need-returns-3
+returns-3 c = declared-read _ _ _ (known (c .before .before .before .before .before .before .before .r .given .1) (c .before .before .before .before .before .before .before .before .before .declaration .ensures)) _ (known-filler (c .before .before .before .r2 .given .1) (c .before .before .before .before .before .filler-lt .ensures) prolog) (c .root .ensures)
+
+pub declared-spec : {M : Type 1} → statement M
+declared-spec =
+    tie.close
+    (tie.spec
+    declaration-requires
+    enum-known-r
+    without-requires
+    returns
+    filler-lt-requires
+    enum-known-r-2
+    without-requires-2
+    returns-2
+    root-requires
+    returns-3)

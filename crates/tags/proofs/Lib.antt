@@ -1,0 +1,11 @@
+pub mod Tests
+pub mod Answers
+pub mod CharacterLaws
+pub mod NumeralLaws
+pub mod ReferenceLaws
+pub mod ValueLaws
+pub mod NameLaws
+pub mod TableLaws
+pub mod AttributeLaws
+pub mod PlaceLaws
+pub mod HeadLaws

@@ -1,0 +1,189 @@
+-- The steps of a name that is not among given ones.
+use mathlib.Core.Path.{_≡_, refl, sym, subst, _∙_}
+use mathlib.Core.List.{List, [], _∷_, _++_, append-assoc, append-nil}
+use mathlib.Core.Logic.{inl, inr}
+use mathlib.Core.Bool.{Bool, true, false}
+use Prim.Native.Nat.{ℕ, suc, _+_, _-_, _≤_, _<_}
+use native.Mathlib.Omega.{arith}
+use native.Mathlib.Numerals.{add-one}
+use lib.ListN.{length, length-append, take, drop, getD, drop-of-length-le}
+use lib.Seq.{drop-cons, take-at}
+use lib.Dec.{eqb, leb}
+use borrow.Author.Tests.{lt-leb}
+use Rattle.model.specs.Tests.{and-left, and-right, and-both, and-false, every-left, every-append}
+use Rattle.model.specs.Names.{glue-not-name, live, new, of-live, live-shut}
+use Rattle.model.specs.Attributes.{State, equalsP, attrP}
+use Rattle.exact.specs.Exact.{Out, bad, Reader}
+use Rattle.exact.specs.Chain.{clash}
+use Rattle.exact.specs.Byte.{pick, other}
+use Rattle.exact.specs.Token.{tokenP}
+use Rattle.exact.specs.Limit.{split}
+use Rattle.grammar.specs.Bytes.{Bytes, within, digit, every, some, among, fits}
+use Rattle.grammar.specs.Glue.{isGlue}
+use Rattle.grammar.specs.Name.{letter, nameStart, nameByte, shaped}
+use Rattle.tags.specs.Names.{Part, Run, Fresh}
+use Rattle.scan.specs.declared.Step.{Step}
+use Rattle.scan.specs.declared.Step.the-variants.{Done, Open, Bad}
+
+shape-grow : (n : Bytes) (b : ℕ) → 0 < length n → shaped n ≡ true → nameByte b ≡ true → shaped (n ++ b ∷ []) ≡ true
+shape-grow [] b h k f = absurd (omega arith)
+shape-grow (x ∷ n) b h k f = and-both (nameStart x) (every nameByte (n ++ b ∷ [])) (and-left (nameStart x) (every nameByte n) k) (every-append nameByte n (b ∷ []) (and-right (nameStart x) (every nameByte n) k) (rw f))
+
+part-is : (x y : Bytes) (n : ℕ) → length x ≡ n → x ≡ take n (x ++ y)
+part-is x y n h = sym (take-at x y n h)
+
+pub part-first : (s : Bytes) (at : ℕ) → at < length s → nameStart (getD s at 0) ≡ true → Part s at (at + 1)
+part-first s at h f =
+    let d : at + 1 - at ≡ 1 = omega arith in
+    let e : drop at s ≡ (getD s at 0 ∷ []) ++ drop (at + 1) s = rw (add-one, drop-cons s at 0 h) in
+    record { name = getD s at 0 ∷ []; from = omega arith; upto = omega arith; short = omega arith; is = rw (d, drop-cons s at 0 h); size = omega arith; shape = rw f; split = e }
+
+pub part-more : (s : Bytes) (at i : ℕ) → Part s at i → i < length s → i - at < 63 → nameByte (getD s i 0) ≡ true → Part s at (i + 1)
+part-more s at i w h k f =
+    let a = w .from in
+    let b = w .size in
+    let e : drop at s ≡ (w .name ++ getD s i 0 ∷ []) ++ drop (i + 1) s = w .split ∙ rw (add-one, append-assoc, drop-cons s i 0 h) in
+    let l : length (w .name ++ getD s i 0 ∷ []) ≡ i + 1 - at = rw length-append (omega arith) in
+    record {
+      name = w .name ++ getD s i 0 ∷ [];
+      from = omega arith;
+      upto = omega arith;
+      short = omega arith;
+      is = rw e (part-is (w .name ++ getD s i 0 ∷ []) (drop (i + 1) s) (i + 1 - at) l);
+      size = rw length-append (omega arith);
+      shape = shape-grow (w .name) (getD s i 0) (omega arith) (w .shape) f;
+      split = e;
+    }
+
+-- while there is room, the names seen do not matter
+pub run-on : {A : Type 0} (earlier : List Bytes) (q : Bytes → Reader A) (n m x : Bytes) → shaped (n ++ m) ≡ true → length (n ++ m) ≤ 63 → tokenP (live earlier) (new earlier) q n (m ++ x) ≡ tokenP (live earlier) (new earlier) q (n ++ m) x
+run-on earlier q n [] x h k = rw append-nil
+run-on earlier q n (b ∷ m) x h k =
+    let e : (n ++ b ∷ []) ++ m ≡ n ++ b ∷ m = append-assoc n (b ∷ []) m in
+    let h′ : shaped ((n ++ b ∷ []) ++ m) ≡ true = rw e h in
+    let k′ : length ((n ++ b ∷ []) ++ m) ≤ 63 = rw e k in
+    let s : shaped (n ++ b ∷ []) ≡ true = shape-cut (n ++ b ∷ []) m h′ in
+    let l : length (n ++ b ∷ []) ≤ 63 = omega (arith, k′, length-append (n ++ b ∷ []) m) in
+    let i : live earlier (n ++ b ∷ []) ≡ true = of-live earlier (n ++ b ∷ []) (record { shape = s; fits = omega arith; room = inl (omega arith) }) in
+    rw i (run-on earlier q (n ++ b ∷ []) m x h′ k′ ∙ rw e)
+  where
+    shape-cut : (n m : Bytes) → shaped (n ++ m) ≡ true → shaped n ≡ true
+    shape-cut [] m h = refl
+    shape-cut (x ∷ n) m h = and-both (nameStart x) (every nameByte n) (and-left (nameStart x) (every nameByte (n ++ m)) h) (every-left nameByte n m (and-right (nameStart x) (every nameByte (n ++ m)) h))
+
+pub run-end : (s : Bytes) (at i : ℕ) → Part s at i → length s ≤ i → Run s at i
+run-end s at i w h = record { part = w; stops = λ k f. absurd (omega arith) }
+
+pub run-full : (s : Bytes) (at i : ℕ) → Part s at i → 63 ≤ i - at → Run s at i
+run-full s at i w h = let z = w .short in record { part = w; stops = λ k f. omega arith }
+
+pub run-stop : (s : Bytes) (at i : ℕ) → Part s at i → nameByte (getD s i 0) ≡ false → Run s at i
+run-stop s at i w h = record { part = w; stops = λ k f. clash (sym f ∙ h) }
+
+not-glue : (b : ℕ) → nameByte b ≡ true → isGlue b ≡ false
+not-glue b h = go (isGlue b) refl
+  where
+    go : (z : Bool) → isGlue b ≡ z → isGlue b ≡ false
+    go false e = e
+    go true e = clash (sym h ∙ glue-not-name b e)
+
+not-equals : (b : ℕ) → nameByte b ≡ true → eqb 61 b ≡ false
+unfolding nameByte nameStart letter within digit
+not-equals b h = other nameByte 61 refl b h
+
+equals-bad : (may : Bool) (st : State) (g n : Bytes) (b : ℕ) (r : Bytes) → nameByte b ≡ true → equalsP may st g n (b ∷ r) ≡ bad (b ∷ r)
+unfolding equalsP
+equals-bad may st g n b r h = rw (not-glue b h, not-equals b h)
+
+new-no : (earlier : List Bytes) (n : Bytes) → among earlier n ≡ true → new earlier n ≡ false
+unfolding new
+new-no earlier n h = and-false (some n) _ (rw h)
+
+new-yes : (earlier : List Bytes) (n : Bytes) → 0 < length n → among earlier n ≡ false → new earlier n ≡ true
+unfolding new
+new-yes earlier [] h k = absurd (omega arith)
+new-yes earlier (x ∷ n) h k = rw k
+
+live-no : (earlier : List Bytes) (n : Bytes) → 64 ≤ length n → among earlier n ≡ true → live earlier n ≡ false
+unfolding live
+live-no earlier n h k = and-false (shaped n) _ (and-false (leb (length n) 64) _ (rw (lt-leb (length n) 63 h, k)))
+
+live-long : (earlier : List Bytes) (n : Bytes) → 64 < length n → live earlier n ≡ false
+unfolding live
+live-long earlier n h = and-false (shaped n) _ (rw (lt-leb (length n) 64 h))
+
+module _ (earlier : List Bytes) (s : Bytes) (at i : ℕ) (w : Run s at i) where
+  name-at-own : (may : Bool) (st : State) (g : Bytes) → attrP may st g (drop at s) ≡ tokenP (live (st .seen)) (new (st .seen)) (equalsP may st g) (w .part .name) (drop i s)
+  unfolding attrP
+  name-at-own may st g = let a = w .part .size in let b = w .part .short in
+      rw (w .part .split) (run-on (st .seen) (equalsP may st g) [] (w .part .name) (drop i s) (w .part .shape) (omega arith))
+
+  name-at : (may : Bool) (st : State) (g : Bytes) → st .seen ≡ earlier → attrP may st g (drop at s) ≡ tokenP (live earlier) (new earlier) (equalsP may st g) (w .part .name) (drop i s)
+  name-at may st g e = subst (λ (l : List Bytes). attrP may st g (drop at s) ≡ tokenP (live l) (new l) (equalsP may st g) (w .part .name) (drop i s)) e (name-at-own may st g)
+
+  pub fresh-end : length s ≤ i → Fresh s earlier at Open
+  fresh-end h = record { says = λ may st g e. name-at may st g e ∙ rw (drop-of-length-le s h) }
+
+  module _ (h : i < length s) where
+    pub fresh-again : nameByte (getD s i 0) ≡ false → among earlier (take (i - at) (drop at s)) ≡ true → Fresh s earlier at (Bad i)
+    fresh-again f a = let x = w .part .from in
+        let n : new earlier (w .part .name) ≡ false = new-no earlier (w .part .name) (rw (w .part .is) a) in
+        record { says = record { from = omega arith; inside = h; reads = λ may st g e. name-at may st g e ∙ rw (drop-cons s i 0 h, live-shut earlier (w .part .name) (getD s i 0) f, n) } }
+
+    pub fresh-done : nameByte (getD s i 0) ≡ false → among earlier (take (i - at) (drop at s)) ≡ false → Fresh s earlier at (Done i)
+    fresh-done f a = let x = w .part .from in let y = w .part .size in
+        let n : new earlier (w .part .name) ≡ true = new-yes earlier (w .part .name) (omega arith) (rw (w .part .is) a) in
+        record { says = record { far = x; upto = w .part .upto; reads = λ may st g e. name-at may st g e ∙ rw (← w .part .is, drop-cons s i 0 h, live-shut earlier (w .part .name) (getD s i 0) f, n) } }
+
+    module _ (f : nameByte (getD s i 0) ≡ true) where
+      name2 : Bytes
+      name2 = w .part .name ++ getD s i 0 ∷ []
+
+      long2 : length name2 ≡ 64
+      unfolding name2
+      long2 = let a = w .part .size in let b = w .stops h f in rw length-append (omega arith)
+
+      is2 : name2 ≡ take (i + 1 - at) (drop at s)
+      unfolding name2
+      is2 = let a = w .part .size in
+          let l : length (w .part .name ++ getD s i 0 ∷ []) ≡ i + 1 - at = rw length-append (omega arith) in
+          let e : drop at s ≡ (w .part .name ++ getD s i 0 ∷ []) ++ drop (i + 1) s = w .part .split ∙ rw (add-one, append-assoc, drop-cons s i 0 h) in
+          rw e (part-is (w .part .name ++ getD s i 0 ∷ []) (drop (i + 1) s) (i + 1 - at) l)
+
+      pub fresh-full : among earlier (take (i + 1 - at) (drop at s)) ≡ true → Fresh s earlier at (Bad i)
+      unfolding name2
+      fresh-full a = let x = w .part .from in
+          let l : live earlier (w .part .name ++ getD s i 0 ∷ []) ≡ false = live-no earlier name2 (let z = long2 in omega arith) (rw is2 a) in
+          record { says = record { from = omega arith; inside = h; reads = λ may st g e. name-at may st g e ∙ rw (drop-cons s i 0 h, l, equals-bad may st g (w .part .name) (getD s i 0) (drop (suc i) s) f) (go (new earlier (w .part .name)) (bad (getD s i 0 ∷ drop (suc i) s))) } }
+        where
+          go : {A : Type 0} (z : Bool) (o : Out A) → pick z o o ≡ o
+          go true o = refl
+          go false o = refl
+
+      module _ (a : among earlier (take (i + 1 - at) (drop at s)) ≡ false) where
+        name-full-at : (may : Bool) (st : State) (g : Bytes) → st .seen ≡ earlier → attrP may st g (drop at s) ≡ tokenP (live earlier) (new earlier) (equalsP may st g) name2 (drop (i + 1) s)
+        unfolding name2
+        name-full-at may st g e =
+            let x = w .part .from in
+            let y = w .part .size in
+            let l : live earlier (w .part .name ++ getD s i 0 ∷ []) ≡ true = of-live earlier (w .part .name ++ getD s i 0 ∷ []) (record { shape = shape-grow (w .part .name) (getD s i 0) (omega arith) (w .part .shape) f; fits = let z = long2 in omega arith; room = inr (rw is2 a) }) in
+            name-at may st g e ∙ rw (add-one, drop-cons s i 0 h, l)
+
+        pub fresh-full-end : length s - i < 2 → Fresh s earlier at Open
+        fresh-full-end k = let j : length s ≤ i + 1 = omega arith in record { says = λ may st g e. name-full-at may st g e ∙ rw (drop-of-length-le s j) }
+
+        module _ (k : 2 ≤ length s - i) where
+          last-at : (may : Bool) (st : State) (g : Bytes) → st .seen ≡ earlier → attrP may st g (drop at s) ≡ equalsP may st g (take (i + 1 - at) (drop at s)) (drop (i + 1) s)
+          last-at may st g e =
+              let j : i + 1 < length s = omega arith in
+              let z = long2 in
+              let n : new earlier name2 ≡ true = new-yes earlier name2 (omega arith) (rw is2 a) in
+              let l : live earlier (name2 ++ getD s (i + 1) 0 ∷ []) ≡ false = live-long earlier (name2 ++ getD s (i + 1) 0 ∷ []) (rw length-append (omega arith)) in
+              name-full-at may st g e ∙ rw (← is2, drop-cons s (i + 1) 0 j, l, n)
+
+          pub fresh-long : nameByte (getD s (i + 1) 0) ≡ true → Fresh s earlier at (Bad (i + 1))
+          fresh-long u = let x = w .part .from in let j : i + 1 < length s = omega arith in
+              record { says = record { from = omega arith; inside = j; reads = λ may st g e. last-at may st g e ∙ rw (drop-cons s (i + 1) 0 j) (equals-bad may st g (take (i + 1 - at) (drop at s)) (getD s (i + 1) 0) (drop (suc (i + 1)) s) u) } }
+
+          pub fresh-last : nameByte (getD s (i + 1) 0) ≡ false → Fresh s earlier at (Done (i + 1))
+          fresh-last u = let x = w .part .from in record { says = record { far = omega arith; upto = omega arith; reads = λ may st g e. last-at may st g e } }

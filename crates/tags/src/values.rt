@@ -1,0 +1,98 @@
+// Values: what stands between the quotes of an attribute.
+// Plain bytes are passed over in one loop; only a reference or a character beyond ASCII is taken apart.
+ghost use mathlib.Core.Path.{_≡_};
+ghost use Prim.Native.Nat.{_≤_};
+ghost use lib.ListN.{length, drop};
+ghost use Rattle.grammar.specs.Value.{isQuote};
+ghost use Rattle.model.specs.Values.{itemP, valueP};
+ghost use Rattle.scan.specs.Pieces.{Got};
+ghost use Rattle.tags.specs.Says.{Says};
+ghost use Rattle.tags.specs.Parts.{codePoint, IsQuote, Ran};
+use crate::Piece;
+use crate::characters::is_plain;
+use scan::Step;
+
+/// A single or a double quote.
+pub fn is_quote(b: u8) -> bool
+    ensures { λ r. ⌜ r ≡ isQuote b ⌝ }
+{
+    match b {
+        b'"' | b'\'' => true,
+        _ => false,
+    }
+}
+
+/// A character or a reference, in quotes q.
+pub fn item(s: &[u8], at: usize, q: u8) -> Piece
+    ensures { λ r. ⌜ Says codePoint 1 (now (s .entry)) at r (itemP q (drop at (now (s .entry)))) ⌝ }
+{
+    if s.len() <= at {
+        return Piece::Open;
+    }
+    if s[at] == b'&' {
+        return crate::references::reference(s, at + 1);
+    }
+    crate::characters::character(s, at, q)
+}
+
+// Where the plain bytes end, or fewer than four bytes are left: four tests a turn.
+fn plain_fours(s: &[u8], at: usize, q: u8) -> usize
+    requires { ⌜ IsQuote q × (at ≤ length (now s)) ⌝ }
+    ensures { λ r. ⌜ Ran q (now (s .entry)) at r ⌝ }
+{
+    let mut i = at;
+    while 4 <= s.len() - i {
+        if !is_plain(s[i], q) {
+            return i;
+        }
+        if !is_plain(s[i + 1], q) {
+            return i + 1;
+        }
+        if !is_plain(s[i + 2], q) {
+            return i + 2;
+        }
+        if !is_plain(s[i + 3], q) {
+            return i + 3;
+        }
+        i += 4;
+    }
+    i
+}
+
+// Where the plain bytes end.
+fn plain_run(s: &[u8], at: usize, q: u8) -> usize
+    requires { ⌜ IsQuote q × (at ≤ length (now s)) ⌝ }
+    ensures { λ r. ⌜ Ran q (now (s .entry)) at r ⌝ }
+{
+    let mut i = plain_fours(s, at, q);
+    while i < s.len() {
+        if !is_plain(s[i], q) {
+            return i;
+        }
+        i += 1;
+    }
+    i
+}
+
+/// A value behind its opening quote q, the closing one included.
+pub fn value(s: &[u8], at: usize, q: u8) -> Step
+    requires { ⌜ IsQuote q × (at ≤ length (now s)) ⌝ }
+    ensures { λ r. ⌜ Got 1 (now (s .entry)) at r (valueP q (drop at (now (s .entry)))) ⌝ }
+{
+    let mut i = at;
+    while i < s.len() {
+        let j = plain_run(s, i, q);
+        if s.len() <= j {
+            return Step::Open;
+        }
+        if s[j] == q {
+            return Step::Done(j + 1);
+        }
+        let p = item(s, j, q);
+        let Piece::Got(c, e) = p else {
+            return crate::step(p);
+        };
+        i = e;
+    }
+    Step::Open
+}
