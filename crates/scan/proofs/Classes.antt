@@ -1,14 +1,17 @@
 -- One law for every class of bytes: what antt computes at each number of a range holds at each number of it.
-use mathlib.Core.Path.{_≡_, refl, sym, subst}
+use mathlib.Core.Path.{_≡_, refl, sym, subst, _∙_}
 use mathlib.Core.List.{List, [], _∷_}
 use mathlib.Core.Logic.{inl, inr, ⊎-elim}
-use mathlib.Core.Bool.{Bool, true, false, cond}
+use mathlib.Core.Bool.{Bool, true, false, _||_, cond}
 use Prim.Native.Nat.{ℕ, zero, suc, _+_, _≤_, _<_}
+use Prim.Native.Char.{code}
 use native.Mathlib.Omega.{arith}
 use native.Mathlib.Decide.{ℕ-discrete}
 use types.Run.{OneOf}
 use lib.Dec.{T, eqb}
 use borrow.Author.Tests.{ne-eqb}
+use Rattle.grammar.specs.Bytes.{digit}
+use Rattle.grammar.specs.Name.{letter, nameStart, nameByte}
 
 abbrev both : Bool → Bool → Bool
 both true b = b
@@ -71,3 +74,18 @@ no-key (k ∷ j ∷ ks) b h = rw (ne-eqb b k (λ e. h (inl e))) (no-key (j ∷ k
 
 pub ranged-but : (f : ℕ → Bool) (v : Bool) (ks : List ℕ) (lo n : ℕ) → T (allIs (λ b. cond (isKey ks b) v (f b)) v lo n) → (b : ℕ) → lo ≤ b → b < lo + n → (OneOf ks b → ⊥) → v ≡ f b
 ranged-but f v ks lo n t b h k ne = rw (no-key ks b ne) at (ranged (λ x. cond (isKey ks x) v (f x)) v lo n t b h k)
+
+-- a name's bytes that are no letters
+unfoldable pub sign : ℕ → Bool
+sign b = eqb (code "_") b || (digit b || (eqb (code "-") b || (eqb (code ".") b || eqb (code ":") b)))
+
+pub letter-name : (b : ℕ) → letter b ≡ true → true ≡ nameByte b
+unfolding nameByte nameStart
+letter-name b h = rw h
+
+pub sign-name : (b : ℕ) (v : Bool) → letter b ≡ false → v ≡ sign b → v ≡ nameByte b
+unfolding nameByte nameStart sign
+sign-name b v h e = rw h (e ∙ go (eqb (code "_") b) _)
+  where
+    go : (x y : Bool) → x || y ≡ x || y
+    go x y = refl

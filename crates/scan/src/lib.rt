@@ -3,7 +3,7 @@ ghost use mathlib.Core.Path.{_≡_};
 ghost use Prim.Native.Nat.{_≤_};
 ghost use lib.ListN.{length, drop};
 ghost use Rattle.grammar.specs.Glue.{isGlue};
-ghost use Rattle.grammar.specs.Name.{nameStart, nameByte};
+ghost use Rattle.grammar.specs.Name.{letter, nameStart, nameByte};
 ghost use Rattle.scan.specs.Pieces.{Skipped, Got, GotTok, byteP, wordP, glueTok, nameTok, gluedP};
 use grammar::Limits;
 
@@ -34,12 +34,25 @@ pub fn is_name_start(b: u8) -> bool
     }
 }
 
+/// A letter, which most bytes of names are.
+fn is_letter(b: u8) -> bool
+    ensures { λ r. ⌜ r ≡ letter b ⌝ }
+{
+    match b {
+        b'a'..=b'z' | b'A'..=b'Z' => true,
+        _ => false,
+    }
+}
+
 /// Whether b may stand in a name behind its first byte.
 pub fn is_name_byte(b: u8) -> bool
     ensures { λ r. ⌜ r ≡ nameByte b ⌝ }
 {
+    if is_letter(b) {
+        return true;
+    }
     match b {
-        b'a'..=b'z' | b'A'..=b'Z' | b'_' | b'-'..=b'.' | b'0'..=b':' => true,
+        b'_' | b'-'..=b'.' | b'0'..=b':' => true,
         _ => false,
     }
 }

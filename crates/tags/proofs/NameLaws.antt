@@ -9,7 +9,7 @@ use native.Mathlib.Numerals.{add-one}
 use lib.ListN.{length, length-append, take, drop, getD, drop-of-length-le}
 use lib.Seq.{drop-cons, take-at}
 use lib.Dec.{eqb, leb}
-use borrow.Author.Tests.{lt-leb}
+use borrow.Author.Tests.{leb-true, leb-false, lt-leb}
 use Rattle.model.specs.Tests.{and-left, and-right, and-both, and-false, every-left, every-append}
 use Rattle.model.specs.Names.{glue-not-name, live, new, of-live, live-shut}
 use Rattle.model.specs.Attributes.{State, equalsP, attrP}
@@ -71,11 +71,13 @@ run-on earlier q n (b ∷ m) x h k =
     shape-cut [] m h = refl
     shape-cut (x ∷ n) m h = and-both (nameStart x) (every nameByte n) (and-left (nameStart x) (every nameByte (n ++ m)) h) (every-left nameByte n m (and-right (nameStart x) (every nameByte (n ++ m)) h))
 
-pub run-end : (s : Bytes) (at i : ℕ) → Part s at i → length s ≤ i → Run s at i
-run-end s at i w h = record { part = w; stops = λ k f. absurd (omega arith) }
-
-pub run-full : (s : Bytes) (at i : ℕ) → Part s at i → 63 ≤ i - at → Run s at i
-run-full s at i w h = let z = w .short in record { part = w; stops = λ k f. omega arith }
+-- at the last place that a name may have, or at the end
+pub run-end : (s : Bytes) (at i k : ℕ) → Part s at i → k ≤ i → (k < length s → k ≡ at + 63) → Run s at i
+run-end s at i k w h e = record { part = w; stops = λ l f. go (leb (length s) k) refl l }
+  where
+    go : (y : Bool) → leb (length s) k ≡ y → i < length s → i ≡ at + 63
+    go true q l = let m = leb-true (length s) k q in absurd (omega arith)
+    go false q l = let m = e (leb-false (length s) k q) in let z = w .short in omega arith
 
 pub run-stop : (s : Bytes) (at i : ℕ) → Part s at i → nameByte (getD s i 0) ≡ false → Run s at i
 run-stop s at i w h = record { part = w; stops = λ k f. clash (sym f ∙ h) }

@@ -2,27 +2,28 @@
 use mathlib.Core.Path.{_≡_, refl, sym, subst, _∙_}
 use mathlib.Core.List.{List, [], _∷_}
 use mathlib.Core.Logic.{_⊎_}
-use mathlib.Core.Bool.{true, false}
-use Prim.Native.Nat.{ℕ, suc, _+_, _≤_, _<_}
+use mathlib.Core.Bool.{Bool, true, false, _&&_, not}
+use Prim.Native.Nat.{ℕ, zero, suc, _+_, _≤_, _<_}
 use native.Mathlib.Omega.{arith}
 use native.Mathlib.Numerals.{add-one}
 use lib.ListN.{length, drop, getD, drop-of-length-le}
 use lib.Seq.{drop-cons}
-use lib.Dec.{eqb, leb}
-use borrow.Author.Tests.{eq-eqb, ne-eqb}
-use Rattle.model.specs.Tests.{and-left}
-use Rattle.model.specs.Characters.{plainByte, charP}
+use lib.Dec.{eqb, leb, ltb}
+use borrow.Author.Tests.{leb-true, le-leb, eq-eqb, ne-eqb, not-true, eqb-false}
+use Rattle.model.specs.Tests.{and-left, and-right}
+use Rattle.model.specs.Characters.{low, high, char-low, plainByte, charP}
 use Rattle.model.specs.References.{refP}
 use Rattle.model.specs.Values.{Acc, itemP, quote-is, turnP, valueP, value-eq}
 use Rattle.exact.specs.Exact.{Out, done, more, bad}
 use Rattle.exact.specs.Chain.{retP, andThen, clash}
+use Rattle.exact.specs.Byte.{eqb-true}
 use Rattle.exact.specs.Loop.{again, onward, loopP}
-use Rattle.grammar.specs.Bytes.{Bytes, within, same}
+use Rattle.grammar.specs.Bytes.{Bytes, within}
 use Rattle.grammar.specs.Character.{isChar}
-use Rattle.grammar.specs.Reference.{readReference}
+use Rattle.grammar.specs.Reference.{amp, lt, readReference}
 use Rattle.grammar.specs.Value.{Item, raw, ref, banned}
 use Rattle.tags.specs.Says.{Known, Says, stepOf}
-use Rattle.tags.specs.Parts.{codePoint, IsQuote, InValue, Ran}
+use Rattle.tags.specs.Parts.{codePoint, IsQuote, InValue, Plain, Ran}
 use Rattle.tags.proofs.Answers.{last, Fails, pass, stepped}
 use Rattle.tags.proofs.CharacterLaws.{plain-quote}
 use Rattle.scan.specs.Pieces.{Got as StepSays}
@@ -30,6 +31,7 @@ use Rattle.scan.specs.declared.Step.{Step}
 use Rattle.scan.specs.declared.Step.the-variants.{Done, Open as Unended, Bad as Dead}
 use Rattle.tags.specs.declared.Piece.{Piece}
 use Rattle.tags.specs.declared.Piece.the-variants.{Got, Open, Bad}
+use mir.Val.{boolByte}
 
 module _ (q : ℕ) (s : Bytes) (at : ℕ) where
   pub item-open : length s ≤ at → Says codePoint 1 s at Open (itemP q (drop at s))
@@ -97,9 +99,13 @@ module _ (q : ℕ) (is-q : IsQuote q) where
         go : (k : Acc) → (k′ : Acc) × (loopP (turnP q) k (drop at s) ≡ loopP (turnP q) k′ (drop i s)) → (k′ : Acc) × (loopP (turnP q) k (drop at s) ≡ loopP (turnP q) k′ (drop (i + 1) s))
         go k (k′, e) = (λ l. k′ (raw (getD s i 0) ∷ l), e ∙ rw (add-one, drop-cons s i 0 h) (go-item k′ (getD s i 0) (drop (suc i) s) (plain-not-q _ p) ∙ rw (plain-item (getD s i 0) (drop (suc i) s) p)))
 
-    -- up to j, which is one place further
-    pub ran-step : (i j : ℕ) → j ≡ i + 1 → Ran q s at i → i < length s → plainByte (banned q) (getD s i 0) ≡ true → Ran q s at j
-    ran-step i j e w h p = subst (λ (x : ℕ). Ran q s at x) (sym e) (ran-more i w h p)
+    -- n bytes further
+    pub ran-many : (n i : ℕ) → Ran q s at i → i + n ≤ length s → Plain q s i n → Ran q s at (i + n)
+    ran-many zero i w h p = subst (λ (x : ℕ). Ran q s at x) (omega arith) w
+    ran-many (suc n) i w h p =
+        let z : i + 0 ≡ i = omega arith in
+        let f : plainByte (banned q) (getD s i 0) ≡ true = rw z at (p 0 (omega arith)) in
+        subst (λ (x : ℕ). Ran q s at x) (omega arith) (ran-many n (i + 1) (ran-more i w (omega arith) f) (omega arith) (λ k l. let e : i + suc k ≡ i + 1 + k = omega arith in rw e at (p (suc k) (omega arith))))
 
     pub value-start : InValue q s at at
     unfolding valueP
@@ -129,3 +135,40 @@ module _ (q : ℕ) (is-q : IsQuote q) where
 
           pub value-next : {c e : ℕ} → Known codePoint 1 s i c e (itemP q (drop i s)) → InValue q s at e
           value-next g = let z = w .from in let y = g .far in let x = g .reads in record { k = λ l. w .k (g .value ∷ l); from = omega arith; same = turned ∙ rw x }
+
+-- a printable character that is none of `<`, `&` and the quote stands as itself
+pub clear-plain : (b q : ℕ) → (((ltb 31 b && ltb b 128) && not (eqb b 60)) && not (eqb b 38)) && not (eqb b q) ≡ true → plainByte (banned q) b ≡ true
+unfolding plainByte banned
+clear-plain b q h =
+    let a = and-left (((ltb 31 b && ltb b 128) && not (eqb b 60)) && not (eqb b 38)) (not (eqb b q)) h in
+    let c = and-left ((ltb 31 b && ltb b 128) && not (eqb b 60)) (not (eqb b 38)) a in
+    let d = and-left (ltb 31 b && ltb b 128) (not (eqb b 60)) c in
+    let low = leb-true 32 b (and-left (ltb 31 b) (ltb b 128) d) in
+    let high = leb-true (suc b) 128 (and-right (ltb 31 b) (ltb b 128) d) in
+    let lt = eqb-false b 60 (not-true (eqb b 60) (and-right (ltb 31 b && ltb b 128) (not (eqb b 60)) c)) in
+    let amp = eqb-false b 38 (not-true (eqb b 38) (and-right ((ltb 31 b && ltb b 128) && not (eqb b 60)) (not (eqb b 38)) a)) in
+    let quote = eqb-false b q (not-true (eqb b q) (and-right (((ltb 31 b && ltb b 128) && not (eqb b 60)) && not (eqb b 38)) (not (eqb b q)) h)) in
+    rw (le-leb b 127 (omega arith), char-low b (omega arith) (omega arith), ne-eqb 60 b (λ e. lt (sym e)), ne-eqb 38 b (λ e. amp (sym e)), ne-eqb q b (λ e. quote (sym e)))
+
+-- eight facts in a row
+pub eight : (P : ℕ → Type 0) (i : ℕ) → P i → P (i + 1) → P (i + 2) → P (i + 3) → P (i + 4) → P (i + 5) → P (i + 6) → P (i + 7) → (k : ℕ) → k < 8 → P (i + k)
+eight P i a b c d e f g h zero l = subst P (omega arith) a
+eight P i a b c d e f g h (suc zero) l = b
+eight P i a b c d e f g h (suc (suc zero)) l = c
+eight P i a b c d e f g h (suc (suc (suc zero))) l = d
+eight P i a b c d e f g h (suc (suc (suc (suc zero)))) l = e
+eight P i a b c d e f g h (suc (suc (suc (suc (suc zero))))) l = f
+eight P i a b c d e f g h (suc (suc (suc (suc (suc (suc zero)))))) l = g
+eight P i a b c d e f g h (suc (suc (suc (suc (suc (suc (suc zero))))))) l = h
+eight P i a b c d e f g h (suc (suc (suc (suc (suc (suc (suc (suc k)))))))) l = absurd (omega arith)
+
+-- from eight numbers that are 1 each where their sum is 8
+pub eight-sum : (P : ℕ → Type 0) (i : ℕ) (a b c d e f g h : ℕ) → (a ≤ 1) × (a ≡ 1 → P i) → (b ≤ 1) × (b ≡ 1 → P (i + 1)) → (c ≤ 1) × (c ≡ 1 → P (i + 2)) → (d ≤ 1) × (d ≡ 1 → P (i + 3)) → (e ≤ 1) × (e ≡ 1 → P (i + 4)) → (f ≤ 1) × (f ≡ 1 → P (i + 5)) → (g ≤ 1) × (g ≡ 1 → P (i + 6)) → (h ≤ 1) × (h ≡ 1 → P (i + 7)) → eqb (a + b + c + d + e + f + g + h) 8 ≡ true → (k : ℕ) → k < 8 → P (i + k)
+eight-sum P i a b c d e f g h f0 f1 f2 f3 f4 f5 f6 f7 z =
+    let s : 8 ≡ a + b + c + d + e + f + g + h = eqb-true (a + b + c + d + e + f + g + h) 8 z in
+    eight P i (f0 .1 (omega (arith, f0 .0, f1 .0, f2 .0, f3 .0, f4 .0, f5 .0, f6 .0, f7 .0))) (f1 .1 (omega (arith, f0 .0, f1 .0, f2 .0, f3 .0, f4 .0, f5 .0, f6 .0, f7 .0))) (f2 .1 (omega (arith, f0 .0, f1 .0, f2 .0, f3 .0, f4 .0, f5 .0, f6 .0, f7 .0))) (f3 .1 (omega (arith, f0 .0, f1 .0, f2 .0, f3 .0, f4 .0, f5 .0, f6 .0, f7 .0))) (f4 .1 (omega (arith, f0 .0, f1 .0, f2 .0, f3 .0, f4 .0, f5 .0, f6 .0, f7 .0))) (f5 .1 (omega (arith, f0 .0, f1 .0, f2 .0, f3 .0, f4 .0, f5 .0, f6 .0, f7 .0))) (f6 .1 (omega (arith, f0 .0, f1 .0, f2 .0, f3 .0, f4 .0, f5 .0, f6 .0, f7 .0))) (f7 .1 (omega (arith, f0 .0, f1 .0, f2 .0, f3 .0, f4 .0, f5 .0, f6 .0, f7 .0)))
+
+-- a test as a number
+pub clear-number : (b q : ℕ) (z : Bool) → (z ≡ true → plainByte (banned q) b ≡ true) → (boolByte z ≤ 1) × (boolByte z ≡ 1 → plainByte (banned q) b ≡ true)
+clear-number b q true f = (omega arith, λ e. f refl)
+clear-number b q false f = (omega arith, λ e. absurd (omega arith))

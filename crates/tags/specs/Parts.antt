@@ -1,9 +1,9 @@
 -- The parts of the models that single functions read.
 use mathlib.Core.Path.{_≡_}
 use mathlib.Core.Bool.{Bool, true}
-use Prim.Native.Nat.{ℕ, _-_, _≤_}
+use Prim.Native.Nat.{ℕ, _+_, _-_, _≤_, _<_}
 use Prim.Native.Char.{code}
-use lib.ListN.{drop}
+use lib.ListN.{drop, getD}
 use lib.Dec.{eqb}
 use Rattle.model.specs.Characters.{next6, cont, second3, third3, second4, plainByte}
 use Rattle.model.specs.References.{decP, hexP, namedP}
@@ -53,6 +53,10 @@ pub record InValue (q : ℕ) (s : Bytes) (at i : ℕ) : Type 0 where
   pub same : valueP q (drop at s) ≡ loopP (turnP q) k (drop i s)
 
 -- raw bytes from `at` up to r
+-- n bytes from i on stand as themselves in quotes q
+abbrev pub Plain : ℕ → Bytes → ℕ → ℕ → Type 0
+Plain q s i n = (k : ℕ) → k < n → plainByte (banned q) (getD s (i + k) 0) ≡ true
+
 pub record Ran (q : ℕ) (s : Bytes) (at r : ℕ) : Type 0 where
   pub from : at ≤ r
   pub same : (k : Acc) → (k′ : Acc) × (loopP (turnP q) k (drop at s) ≡ loopP (turnP q) k′ (drop r s))

@@ -6,7 +6,7 @@ ghost use Prim.Native.Nat.{_+_, _-_, _*_, _≤_, _<_};
 ghost use lib.ListN.{length, take, drop, getD};
 ghost use lib.Dec.{leb};
 ghost use Rattle.grammar.specs.Bytes.{same, among};
-ghost use Rattle.grammar.specs.Limits.{ATTRIBUTES};
+ghost use Rattle.grammar.specs.Limits.{NAME, ATTRIBUTES};
 ghost use Rattle.grammar.specs.Name.{nameStart};
 ghost use Rattle.tags.specs.Places.{stored};
 ghost use Rattle.tags.specs.Names.{namesOf, Table, Run, Fresh};
@@ -70,16 +70,25 @@ fn put(table: &mut [usize; 128], n: usize, name: usize, past: usize, value: usiz
     table[4 * n + 3] = end;
 }
 
+// Where a name at `at` lacks one byte to be full, or the input ends.
+fn name_stop(len: usize, at: usize) -> usize
+    requires { ⌜ at < len ⌝ }
+    ensures { λ r. ⌜ (r ≤ len) × (r ≤ at + (NAME - 1)) × (r < len → r ≡ at + (NAME - 1)) ⌝ }
+{
+    if len - at < Limits::NAME {
+        return len;
+    }
+    at + (Limits::NAME - 1)
+}
+
 // Where a name ends, or where it lacks one byte to be full.
 fn name_run(s: &[u8], at: usize) -> usize
     requires { ⌜ (at < length (now s)) × (nameStart (getD (now s) at 0) ≡ true) ⌝ }
     ensures { λ r. ⌜ Run (now (s .entry)) at r ⌝ }
 {
+    let stop = name_stop(s.len(), at);
     let mut i = at + 1;
-    while i < s.len() {
-        if Limits::NAME - 1 <= i - at {
-            return i;
-        }
+    while i < stop {
         if !scan::is_name_byte(s[i]) {
             return i;
         }

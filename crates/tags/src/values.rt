@@ -1,13 +1,15 @@
 // Values: what stands between the quotes of an attribute.
 // Plain bytes are passed over in one loop; only a reference or a character beyond ASCII is taken apart.
 ghost use mathlib.Core.Path.{_≡_};
-ghost use Prim.Native.Nat.{_≤_};
+ghost use mathlib.Core.Bool.{true};
+ghost use Prim.Native.Nat.{_+_, _≤_};
 ghost use lib.ListN.{length, drop};
-ghost use Rattle.grammar.specs.Value.{isQuote};
+ghost use Rattle.grammar.specs.Value.{isQuote, banned};
+ghost use Rattle.model.specs.Characters.{plainByte};
 ghost use Rattle.model.specs.Values.{itemP, valueP};
 ghost use Rattle.scan.specs.Pieces.{Got};
 ghost use Rattle.tags.specs.Says.{Says};
-ghost use Rattle.tags.specs.Parts.{codePoint, IsQuote, Ran};
+ghost use Rattle.tags.specs.Parts.{codePoint, IsQuote, Plain, Ran};
 use crate::Piece;
 use crate::characters::is_plain;
 use scan::Step;
@@ -35,26 +37,41 @@ pub fn item(s: &[u8], at: usize, q: u8) -> Piece
     crate::characters::character(s, at, q)
 }
 
-// Where the plain bytes end, or fewer than four bytes are left: four tests a turn.
-fn plain_fours(s: &[u8], at: usize, q: u8) -> usize
+// 1 if b is a printable character that stands as itself in quotes q, else 0: a number, so that no branch is guessed.
+fn clear(b: u8, q: u8) -> u8
+    ensures small { λ r. ⌜ r ≤ 1 ⌝ }
+    ensures plain { λ r. ⌜ (r ≡ 1 → plainByte (banned q) b ≡ true) ⌝ }
+{
+    ((31 < b) & (b < 128) & (b != b'<') & (b != b'&') & (b != q)) as u8
+}
+
+// Whether the eight bytes at i are such characters.
+fn eight_clear(s: &[u8], i: usize, q: u8) -> bool
+    requires { ⌜ i + 8 ≤ length (now s) ⌝ }
+    ensures { λ r. ⌜ (r ≡ true → Plain q (now (s .entry)) i 8) ⌝ }
+{
+    let n = clear(s[i], q)
+        + clear(s[i + 1], q)
+        + clear(s[i + 2], q)
+        + clear(s[i + 3], q)
+        + clear(s[i + 4], q)
+        + clear(s[i + 5], q)
+        + clear(s[i + 6], q)
+        + clear(s[i + 7], q);
+    n == 8
+}
+
+// Where fewer than eight plain bytes stand in a row: one branch for eight bytes.
+fn plain_eights(s: &[u8], at: usize, q: u8) -> usize
     requires { ⌜ IsQuote q × (at ≤ length (now s)) ⌝ }
     ensures { λ r. ⌜ Ran q (now (s .entry)) at r ⌝ }
 {
     let mut i = at;
-    while 4 <= s.len() - i {
-        if !is_plain(s[i], q) {
+    while 8 <= s.len() - i {
+        if !eight_clear(s, i, q) {
             return i;
         }
-        if !is_plain(s[i + 1], q) {
-            return i + 1;
-        }
-        if !is_plain(s[i + 2], q) {
-            return i + 2;
-        }
-        if !is_plain(s[i + 3], q) {
-            return i + 3;
-        }
-        i += 4;
+        i += 8;
     }
     i
 }
@@ -64,7 +81,7 @@ fn plain_run(s: &[u8], at: usize, q: u8) -> usize
     requires { ⌜ IsQuote q × (at ≤ length (now s)) ⌝ }
     ensures { λ r. ⌜ Ran q (now (s .entry)) at r ⌝ }
 {
-    let mut i = plain_fours(s, at, q);
+    let mut i = plain_eights(s, at, q);
     while i < s.len() {
         if !is_plain(s[i], q) {
             return i;

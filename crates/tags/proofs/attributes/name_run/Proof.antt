@@ -2,33 +2,26 @@
 use mathlib.Core.Path.{sym, _∙_}
 use Prim.Native.Nat.{_-_}
 use native.Mathlib.Omega.{arith}
-use lib.ListN.{length}
 use borrow.Author.Tests.{not-true, not-false}
 use Rattle.tags.specs.Names.{Part}
-use Rattle.tags.proofs.NameLaws.{part-first, part-more, run-end, run-full, run-stop}
+use Rattle.tags.proofs.NameLaws.{part-first, part-more, run-end, run-stop}
 use Rattle.tags.proofs.attributes.name_run.Statement.{statement}
 use Rattle.tags.proofs.attributes.name_run.Tie as tie
 
 abbrev Inv-loop : tie.InvT-loop
-Inv-loop s at i₀ i = Part s at i
+Inv-loop s at stop i₀ i = Part s at i
 
 abbrev μ-loop : tie.MeasureT-loop
-μ-loop s at i₀ i = length s - i
+μ-loop s at stop i₀ i = stop - i
+
+name-stop-requires : tie.Need-name-stop-requires Inv-loop μ-loop
+name-stop-requires c κs = omega arith
 
 add-i : tie.Need-add-i Inv-loop μ-loop
 add-i c = omega arith
 
 loop-holds : tie.Need-loop-holds Inv-loop μ-loop
-loop-holds c = part-first _ _ (c .before .pre .0) (c .before .pre .1)
-
-sub-if1 : tie.Need-sub-if1 Inv-loop μ-loop
-sub-if1 c = omega arith
-
-sub-if1-2 : tie.Need-sub-if1-2 Inv-loop μ-loop
-sub-if1-2 c = omega arith
-
-returns : tie.Need-returns Inv-loop μ-loop
-returns c = run-full _ _ _ (c .before .before .loop .inv) (c .if1 .taken)
+loop-holds c = part-first _ _ (c .before .before .pre .0) (c .before .before .pre .1)
 
 shared-slice-read-is-name-byte : tie.Need-shared-slice-read-is-name-byte Inv-loop μ-loop
 shared-slice-read-is-name-byte c = omega arith
@@ -36,8 +29,8 @@ shared-slice-read-is-name-byte c = omega arith
 is-name-byte-requires : tie.Need-is-name-byte-requires Inv-loop μ-loop
 is-name-byte-requires c κs = tt
 
-returns-2 : tie.Need-returns-2 Inv-loop μ-loop
-returns-2 c = run-stop _ _ _ (c .before .before .before .before .before .loop .inv) (sym (c .before .is-name-byte .ensures) ∙ not-true _ (c .if2 .taken))
+returns : tie.Need-returns Inv-loop μ-loop
+returns c = run-stop _ _ _ (c .before .before .before .before .loop .inv) (sym (c .before .is-name-byte .ensures) ∙ not-true _ (c .if1 .taken))
 
 add-i-2 : tie.Need-add-i-2 Inv-loop μ-loop
 add-i-2 c = omega arith
@@ -46,10 +39,10 @@ loop-less : tie.Need-loop-less Inv-loop μ-loop
 loop-less c = omega arith
 
 loop-again : tie.Need-loop-again Inv-loop μ-loop
-loop-again c = part-more _ _ _ (c .before .before .before .before .before .loop .inv) (c .before .before .before .before .loop-test .taken) (c .before .before .before .if1 .left) (sym (c .before .is-name-byte .ensures) ∙ not-false _ (c .if2 .left))
+loop-again c = part-more _ _ _ (c .before .before .before .before .loop .inv) (omega arith) (omega arith) (sym (c .before .is-name-byte .ensures) ∙ not-false _ (c .if1 .left))
 
-returns-3 : tie.Need-returns-3 Inv-loop μ-loop
-returns-3 c = run-end _ _ _ (c .before .loop .inv) (c .loop-test .left)
+returns-2 : tie.Need-returns-2 Inv-loop μ-loop
+returns-2 c = run-end _ _ _ _ (c .before .loop .inv) (c .loop-test .left) (c .before .before .name-stop .ensures .2)
 
 pub name-run-spec : {M : Type 1} → statement M
 name-run-spec =
@@ -57,15 +50,13 @@ name-run-spec =
     (tie.spec
     Inv-loop
     μ-loop
+    name-stop-requires
     add-i
     loop-holds
-    sub-if1
-    sub-if1-2
-    returns
     shared-slice-read-is-name-byte
     is-name-byte-requires
-    returns-2
+    returns
     add-i-2
     loop-less
     loop-again
-    returns-3)
+    returns-2)

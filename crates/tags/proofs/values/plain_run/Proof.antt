@@ -15,11 +15,11 @@ Inv-loop s at q i₀ i = Ran q s at i
 abbrev μ-loop : tie.MeasureT-loop
 μ-loop s at q i₀ i = length s - i
 
-plain-fours-requires : tie.Need-plain-fours-requires Inv-loop μ-loop
-plain-fours-requires c κs = c .before .pre
+plain-eights-requires : tie.Need-plain-eights-requires Inv-loop μ-loop
+plain-eights-requires c κs = c .before .pre
 
 loop-holds : tie.Need-loop-holds Inv-loop μ-loop
-loop-holds c = c .plain-fours .ensures
+loop-holds c = c .plain-eights .ensures
 
 shared-slice-read-is-plain : tie.Need-shared-slice-read-is-plain Inv-loop μ-loop
 shared-slice-read-is-plain c = omega arith
@@ -48,7 +48,7 @@ plain-run-spec =
     (tie.spec
     Inv-loop
     μ-loop
-    plain-fours-requires
+    plain-eights-requires
     loop-holds
     shared-slice-read-is-plain
     is-plain-requires
