@@ -1,0 +1,4 @@
+pub mod Table
+pub mod Says
+pub mod Theorems
+pub mod Examples

@@ -1,0 +1,1 @@
+// What a message says stands in specs/.
