@@ -1,0 +1,12 @@
+pub mod Text
+pub mod Quotes
+pub mod AsRead
+pub mod Loose
+pub mod Walk
+pub mod Units
+pub mod Decoded
+pub mod Asking
+pub mod Parts
+pub mod Only
+pub mod Asked
+pub mod Numbers

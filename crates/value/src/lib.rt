@@ -1,0 +1,21 @@
+// The text of a value: what stands between an attribute's quotes, as it reads.
+mod ask;
+mod decode;
+mod numbers;
+mod part;
+mod tests;
+mod text;
+mod units;
+mod utf8;
+
+pub use ask::ask_text;
+pub use ask::refusal_of;
+pub use numbers::guid_at;
+pub use numbers::int_at;
+pub use numbers::number_at;
+pub use numbers::version_at;
+pub use part::text_part;
+pub use text::Span;
+pub use text::TextAt;
+pub use text::Words;
+pub use text::text_decode;
