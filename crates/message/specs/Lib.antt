@@ -2,3 +2,9 @@ pub mod Table
 pub mod Says
 pub mod Theorems
 pub mod Examples
+pub mod Fields
+pub mod Checked
+pub mod Held
+pub mod Children
+pub mod Kinds
+pub mod Handed

@@ -6,3 +6,4 @@ pub mod PartLaws
 pub mod TextLaws
 pub mod NumberLaws
 pub mod Theorems
+pub mod IdLaws

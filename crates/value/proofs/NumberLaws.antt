@@ -1,6 +1,7 @@
--- The state of a scan, kept over the characters of a value and over the bytes of one.
-use mathlib.Core.Path.{_≡_, refl, sym, ap, _∙_}
+-- The state of a scan, kept over the characters of a value and over the bytes of one; and plain values, which need none.
+use mathlib.Core.Path.{_≡_, refl, sym, ap, subst, _∙_}
 use mathlib.Core.List.{[], _∷_, _++_}
+use mathlib.Core.Bool.{Bool, true}
 use Prim.Native.Nat.{ℕ, _+_, _≤_, _<_}
 use native.Mathlib.Numerals.{add-one}
 use lib.ListN.{length, take, getD}
@@ -13,9 +14,14 @@ use Rattle.number.proofs.Theorems.{scanned-more, scanned-on}
 use Rattle.tags.proofs.Answers.{Fails}
 use Rattle.tags.specs.declared.Piece.{Piece}
 use Rattle.value.specs.Walk.{Taken, Walked, walked-start, walked-step, walked-end, walked-fail}
+use Rattle.value.specs.Plain.{plain, plain-reads}
 use Rattle.value.specs.Units.{UnitSays}
 use Rattle.value.specs.Numbers.{Reads, read, unread}
 use Rattle.value.proofs.DecodeLaws.{untaken}
+
+-- what is said of the bytes of a plain value is said of what it reads as
+pub plain-read : {A : Type 0} {says : Bytes → A → Type 0} {none : A} {w : Bytes} {p : Bool} {r : A} → p ≡ plain w → p ≡ true → says w r → Reads says none w r
+plain-read {says = says} {w = w} {r = r} h k s = let (l, x, e) = plain-reads w (sym h ∙ k) in read l x (subst (λ (v : Bytes). says v r) (sym e) s)
 
 module _ {S : Type 0} (step : S → ℕ → S) (start : S) where
   -- the state after the first k bytes of m

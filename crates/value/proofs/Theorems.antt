@@ -1,24 +1,29 @@
--- No second answer meets a promise: of a text asked for in one call, and of the numbers of a raw value.
+-- No second answer meets a promise: of a text asked for in one call, of how long a value reads, and of the numbers and the id of a raw value.
 use mathlib.Core.Path.{_≡_, refl, sym, ap, subst, _∙_}
 use mathlib.Core.List.{List, [], _∷_, _++_}
 use mathlib.Core.Bool.{Bool}
-use Prim.Native.Nat.{ℕ, _≤_}
+use Prim.Native.Nat.{ℕ}
 use native.Mathlib.Omega.{arith}
 use lib.ListN.{length, length-append}
 use denote.Ref.{RefT, now, ptr}
-use Rattle.model.specs.Values.{itemP, amp-first}
+use Rattle.model.specs.Values.{itemP}
 use Rattle.exact.specs.Exact.{done}
 use Rattle.grammar.specs.Bytes.{Bytes}
-use Rattle.grammar.specs.Value.{Item, spellItem, spellValue, GoodItem, good-raw, good-ref, GoodValue, good-last, good-item, readValue}
+use Rattle.grammar.specs.Value.{Item, spellItem, spellValue, GoodItem, GoodValue, good-last, good-item, readValue}
 use Rattle.number.proofs.Theorems.{int-only, number-only, guid-only, version-only}
 use Rattle.number.specs.declared.whole.WholeRead.{WholeRead}
 use Rattle.number.specs.declared.positive.NumberRead.{NumberRead}
-use Rattle.value.specs.AsRead.{utf8-size}
+use Rattle.value.specs.Size.{some-bytes}
 use Rattle.value.specs.Loose.{item-exact, BRACKET, Loose}
+use Rattle.value.specs.Decoded.{LengthSays}
 use Rattle.value.specs.Numbers.{Reads, read, unread, IntReads, NumberReads, GuidReads, VersionReads}
+use Rattle.value.specs.Ids.{IdReads}
 use Rattle.value.specs.Parts.{partAt, Lies}
 use Rattle.value.specs.Asked.{refusalOf, Asked}
 use Rattle.value.specs.Only.{decode-only, part-only}
+use Rattle.value.specs.declared.decode.Length.{Length}
+use Rattle.value.specs.declared.decode.Length.the-variants.{Is, Not}
+use Rattle.value.specs.declared.id.Guid.{Guid}
 use Rattle.value.specs.declared.text.Words.{Words}
 use Rattle.value.specs.declared.text.TextAt.{TextAt}
 
@@ -34,10 +39,6 @@ ask-only {a} {m} {t} {b} {old} {k} {k′} {r} {r′} x y =
     record { refusal = x .refusal ∙ ap refusalOf (s .answer) ∙ sym (y .refusal); part = part-only (x .part) p }
 
 -- the items of bytes are one
-some-bytes : {i : Item} → GoodItem BRACKET i → 1 ≤ length (spellItem i)
-some-bytes (good-raw {c} h k) = utf8-size c .0
-some-bytes (good-ref {r} g) = let z = ap length (amp-first r .1) in omega arith
-
 no-items : {i : Item} (k : List Item) → GoodItem BRACKET i → [] ≡ spellItem i ++ spellValue k → ⊥
 no-items {i} k g e = let a = some-bytes g in let z = ap length e in omega (arith, length-append (spellItem i) (spellValue k))
 
@@ -58,6 +59,16 @@ items-one (good-item {i = i} {l = k} g r) (good-item {i = j} {l = m} h s) e =
 pub loose-one : {w : Bytes} {l l′ : List Item} → Loose w l → Loose w l′ → l ≡ l′
 loose-one x y = items-one (x .good) (y .good) (sym (x .spelt) ∙ y .spelt)
 
+-- of `text_len`
+pub length-only : {w : Bytes} (r q : Length) → LengthSays w r → LengthSays w q → r ≡ q
+length-only (Is n) (Is m) x y =
+    let (l, a, e) = x .says in
+    let (k, b, f) = y .says in
+    ap Is (e ∙ ap (λ (l : List Item). length (readValue l)) (loose-one a b) ∙ sym f)
+length-only (Is n) Not x y = let (l, a, e) = x .says in absurd (y .says l a)
+length-only Not (Is m) x y = let (k, b, f) = y .says in absurd (x .says k b)
+length-only Not Not x y = refl
+
 -- of the numbers
 reads-only : {A : Type 0} {says : Bytes → A → Type 0} {none : A} {w : Bytes} {r q : A} → ((v : Bytes) → says v r → says v q → r ≡ q) → Reads says none w r → Reads says none w q → r ≡ q
 reads-only {says = says} {q = q} f (read l x a) (read m y b) = f (readValue l) a (subst (λ (k : List Item). says (readValue k) q) (loose-one y x) b)
@@ -76,3 +87,7 @@ guid-at-only r q x y = reads-only (λ v a b. guid-only v r q a b) x y
 
 pub version-at-only : {w : Bytes} (r q : Bool) → VersionReads w r → VersionReads w q → r ≡ q
 version-at-only r q x y = reads-only (λ v a b. version-only v r q a b) x y
+
+-- of `id_at`
+pub id-only : {w : Bytes} (r q : Guid) → IdReads w r → IdReads w q → r ≡ q
+id-only r q x y = reads-only (λ v a b. a ∙ sym b) x y

@@ -81,7 +81,7 @@ item-size lf (good-raw {c} h k) = at (eqb (code "\r") c && lf) (eqb (code "\t") 
     at false false = omega arith
 item-size lf (good-ref g) = let z = reference-longer g in omega arith
 
-value-size : {q : ℕ} {l : List Item} → GoodValue q l → length (readValue l) ≤ length (spellValue l)
+pub value-size : {q : ℕ} {l : List Item} → GoodValue q l → length (readValue l) ≤ length (spellValue l)
 unfolding readValue
 value-size good-last = omega arith
 value-size (good-item {i} {l} g r) = omega (arith, item-size (feeds l) g, value-size r, length-append (readItem i (feeds l)) (readValue l), length-append (spellItem i) (spellValue l))

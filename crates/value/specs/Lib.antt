@@ -2,6 +2,8 @@ pub mod Text
 pub mod Quotes
 pub mod AsRead
 pub mod Loose
+pub mod Size
+pub mod Plain
 pub mod Walk
 pub mod Units
 pub mod Decoded
@@ -10,3 +12,4 @@ pub mod Parts
 pub mod Only
 pub mod Asked
 pub mod Numbers
+pub mod Ids

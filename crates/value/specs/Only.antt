@@ -1,15 +1,18 @@
--- No second answer meets a promise; and when the answer is 6.
+-- No second answer meets a promise; when the answer is 6; and where it is never 7.
 use mathlib.Core.Path.{_≡_, refl, sym, ap, subst, _∙_}
 use mathlib.Core.List.{List, _++_}
 use mathlib.Core.Logic.{_⊎_, inl, inr, _↔_}
 use Prim.Native.Nat.{ℕ, _+_, _≤_, _<_}
 use native.Mathlib.Omega.{arith}
-use lib.ListN.{length, take, drop}
+use lib.ListN.{length, take, drop, length-drop}
+use lib.Seq.{length-take-le}
 use denote.Ref.{RefT, now, ptr}
 use Rattle.exact.specs.Chain.{clash}
 use Rattle.grammar.specs.Bytes.{Bytes}
 use Rattle.value.specs.Text.{Text}
 use Rattle.value.specs.Quotes.{text-one}
+use Rattle.value.specs.Loose.{text-loose}
+use Rattle.value.specs.Size.{reads-no-longer}
 use Rattle.value.specs.Asking.{NoText, Answer, no-value, stands, no-room, decoded, TextSays, absent, outside, there}
 use Rattle.value.specs.Parts.{Place, Lies}
 use Rattle.value.specs.declared.text.Span.{Span}
@@ -108,3 +111,31 @@ text-six-iff {msg} {old} {new} {p} {r} x = (to x, from x)
     from (outside p′ e h a b) o = a
     from (there p′ e h y) (inl k) = absurd (far-out msg p p′ (one-span refl e) k h)
     from (there p′ e h y) (inr n) = none (one-span e refl) y n
+
+-- a scratch as long as the raw value is long enough
+pub scratch-enough : {msg old new : Bytes} {p : Span} {r : TextAt} → TextSays msg (Present p) old new r → p .len ≤ length old → r ≡ No 7 → ⊥
+scratch-enough {msg} {old} {new} {p} {r} x enough q = go x
+  where
+    other : {a : TextAt} → r ≡ a → a ≡ No 7
+    other f = sym f ∙ q
+
+    short : {p′ : Span} → p′ ≡ p → p′ .start + p′ .len ≤ length msg → {v : Bytes} → Text (take (p′ .len) (drop (p′ .start) msg)) v → length old < length v → ⊥
+    short {p′} e h y l =
+        let a = ap (λ (p : Span). p .len) e in
+        let d = length-drop (p′ .start) msg in
+        let t = length-take-le (p′ .len) (drop (p′ .start) msg) (omega arith) in
+        let (k, x, v, s) = text-loose y in
+        let n = reads-no-longer x in
+        let b = ap length v in
+        omega arith
+
+    room : {p′ : Span} → p′ ≡ p → p′ .start + p′ .len ≤ length msg → Answer (take (p′ .len) (drop (p′ .start) msg)) p′ old new r → ⊥
+    room e h (no-value n a b) = let z = other a in let u : _≡_ {A = ℕ} 6 7 = cc in omega arith
+    room e h (stands v y s a b) = let z = other a in let u : _≡_ {A = ℕ} 0 1 = cc in omega arith
+    room e h (no-room v y s l a b) = short e h y l
+    room e h (decoded v y s l a b) = let z = other a in let u : _≡_ {A = ℕ} 0 1 = cc in omega arith
+
+    go : TextSays msg (Present p) old new r → ⊥
+    go (absent e a b) = not-both e refl
+    go (outside p′ e h a b) = let z = other a in let u : _≡_ {A = ℕ} 6 7 = cc in omega arith
+    go (there p′ e h y) = room (one-span e refl) h y

@@ -14,8 +14,8 @@ pub enum Length {
     Not,
 }
 
-/// How many bytes the items read as.
-pub fn decoded_len(raw: &[u8]) -> Length
+/// How many bytes the value reads as.
+pub fn text_len(raw: &[u8]) -> Length
     ensures { λ r. ⌜ LengthSays (now (raw .entry)) r ⌝ }
 {
     let mut i = 0;

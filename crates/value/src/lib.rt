@@ -1,6 +1,7 @@
 // The text of a value: what stands between an attribute's quotes, as it reads.
 mod ask;
 mod decode;
+mod id;
 mod numbers;
 mod part;
 mod tests;
@@ -10,6 +11,10 @@ mod utf8;
 
 pub use ask::ask_text;
 pub use ask::refusal_of;
+pub use decode::Length;
+pub use decode::text_len;
+pub use id::Guid;
+pub use id::id_at;
 pub use numbers::guid_at;
 pub use numbers::int_at;
 pub use numbers::number_at;

@@ -1,9 +1,10 @@
-// Numbers of raw values, read character by character: no scratch is needed.
+// Numbers of raw values, read where they stand, or character by character: no scratch is needed.
 ghost use mathlib.Core.Path.{_≡_};
 ghost use Prim.Native.Nat.{_≤_};
 ghost use Rattle.grammar.specs.Character.{utf8};
 ghost use Rattle.number.specs.Scan.{run, intStep, numberStep, guidStep, versionStep};
 ghost use Rattle.value.specs.Numbers.{IntReads, NumberReads, GuidReads, VersionReads};
+use crate::tests::is_plain;
 use crate::units::unit;
 use crate::utf8::utf8_byte;
 use crate::utf8::utf8_len;
@@ -30,8 +31,8 @@ fn int_char(from: IntScan, c: usize) -> IntScan
     s
 }
 
-/// An Int, as the value reads.
-pub fn int_at(raw: &[u8]) -> WholeRead
+// An Int, character by character.
+fn int_walk(raw: &[u8]) -> WholeRead
     ensures { λ r. ⌜ IntReads (now (raw .entry)) r ⌝ }
 {
     let mut s = IntScan::start();
@@ -45,6 +46,16 @@ pub fn int_at(raw: &[u8]) -> WholeRead
         i = e;
     }
     s.end()
+}
+
+/// An Int, as the value reads.
+pub fn int_at(raw: &[u8]) -> WholeRead
+    ensures { λ r. ⌜ IntReads (now (raw .entry)) r ⌝ }
+{
+    if is_plain(raw) {
+        return number::int_of(raw);
+    }
+    int_walk(raw)
 }
 
 // The state after the bytes of the character c.
@@ -62,8 +73,8 @@ fn number_char(from: NumberScan, c: usize) -> NumberScan
     s
 }
 
-/// A positive number, as the value reads.
-pub fn number_at(raw: &[u8]) -> NumberRead
+// A positive number, character by character.
+fn number_walk(raw: &[u8]) -> NumberRead
     ensures { λ r. ⌜ NumberReads (now (raw .entry)) r ⌝ }
 {
     let mut s = NumberScan::start();
@@ -82,6 +93,16 @@ pub fn number_at(raw: &[u8]) -> NumberRead
     s.end()
 }
 
+/// A positive number, as the value reads.
+pub fn number_at(raw: &[u8]) -> NumberRead
+    ensures { λ r. ⌜ NumberReads (now (raw .entry)) r ⌝ }
+{
+    if is_plain(raw) {
+        return number::number_of(raw);
+    }
+    number_walk(raw)
+}
+
 // The state after the bytes of the character c.
 fn guid_char(from: GuidScan, c: usize) -> GuidScan
     requires { ⌜ c ≤ 0x10FFFF ⌝ }
@@ -97,8 +118,8 @@ fn guid_char(from: GuidScan, c: usize) -> GuidScan
     s
 }
 
-/// Whether it is a GUID, as the value reads.
-pub fn guid_at(raw: &[u8]) -> bool
+/// Whether it is a GUID, character by character.
+pub fn guid_walk(raw: &[u8]) -> bool
     ensures { λ r. ⌜ GuidReads (now (raw .entry)) r ⌝ }
 {
     let mut s = GuidScan::start();
@@ -112,6 +133,16 @@ pub fn guid_at(raw: &[u8]) -> bool
         i = e;
     }
     s.end()
+}
+
+/// Whether it is a GUID, as the value reads.
+pub fn guid_at(raw: &[u8]) -> bool
+    ensures { λ r. ⌜ GuidReads (now (raw .entry)) r ⌝ }
+{
+    if is_plain(raw) {
+        return number::is_guid(raw);
+    }
+    guid_walk(raw)
 }
 
 // The state after the bytes of the character c.
@@ -129,8 +160,8 @@ fn version_char(from: VersionScan, c: usize) -> VersionScan
     s
 }
 
-/// Whether it is a Version, as the value reads.
-pub fn version_at(raw: &[u8]) -> bool
+// Whether it is a Version, character by character.
+fn version_walk(raw: &[u8]) -> bool
     ensures { λ r. ⌜ VersionReads (now (raw .entry)) r ⌝ }
 {
     let mut s = VersionScan::start();
@@ -144,4 +175,14 @@ pub fn version_at(raw: &[u8]) -> bool
         i = e;
     }
     s.end()
+}
+
+/// Whether it is a Version, as the value reads.
+pub fn version_at(raw: &[u8]) -> bool
+    ensures { λ r. ⌜ VersionReads (now (raw .entry)) r ⌝ }
+{
+    if is_plain(raw) {
+        return number::is_version(raw);
+    }
+    version_walk(raw)
 }

@@ -3,6 +3,7 @@ ghost use mathlib.Core.Path.{_≡_};
 ghost use mathlib.Core.Bool.{_||_};
 ghost use Rattle.value.specs.Text.{altered, asRead};
 ghost use Rattle.value.specs.Quotes.{lacks};
+ghost use Rattle.value.specs.Plain.{plainChar, plain};
 
 // Whether b reads as another byte than it is, or begins a reference.
 fn is_altered(b: u8) -> bool
@@ -30,6 +31,31 @@ pub fn is_as_read(w: &[u8]) -> bool
             return false;
         }
         i += 1;
+    }
+    true
+}
+
+// Whether b is a character that may stand in every value, and reads as itself.
+fn is_plain_char(b: u8) -> bool
+    ensures { λ r. ⌜ r ≡ plainChar b ⌝ }
+{
+    match b {
+        b' '..=b'%' | b'\''..=b';' | b'='..=0x7F => true,
+        _ => false,
+    }
+}
+
+/// Whether w is plain: a value that stands exactly as it reads.
+pub fn is_plain(w: &[u8]) -> bool
+    ensures { λ r. ⌜ r ≡ plain (now (w .entry)) ⌝ }
+{
+    let mut i = 0;
+    while i < w.len() {
+        if is_plain_char(w[i]) {
+            i += 1;
+        } else {
+            return false;
+        }
     }
     true
 }

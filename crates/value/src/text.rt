@@ -2,7 +2,7 @@
 ghost use Rattle.value.specs.Asking.{Answer, TextSays};
 use crate::decode::Length;
 use crate::decode::decode;
-use crate::decode::decoded_len;
+use crate::decode::text_len;
 use crate::tests::is_as_read;
 use crate::tests::is_quotable;
 
@@ -29,7 +29,7 @@ pub enum TextAt {
 fn text_of(w: &[u8], p: Span, scratch: &mut [u8]) -> TextAt
     ensures { λ r. ⌜ Answer (now (w .entry)) p (now (scratch .entry)) (now (scratch .exit)) r ⌝ }
 {
-    let l = decoded_len(w);
+    let l = text_len(w);
     let Length::Is(n) = l else {
         return TextAt::No(6);
     };

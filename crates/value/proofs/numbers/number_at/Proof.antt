@@ -1,66 +1,23 @@
--- The invariant: the state after what was read up to here.
-use mathlib.Core.Path.{_≡_, refl, ap, _∙_}
-use Prim.Native.Nat.{_-_}
-use native.Mathlib.Omega.{arith}
-use lib.ListN.{length}
-use Rattle.number.specs.Scan.{numberStep, numberStart, numberEnd}
-use Rattle.number.proofs.Theorems.{number-exact}
-use Rattle.number.specs.Positive.{noNumber, numberOf, numberRead}
-use Rattle.value.proofs.DecodeLaws.{taken}
-use Rattle.value.proofs.NumberLaws.{Scanned, scanned-none, scanned-next, scanned-end, scanned-fail}
+-- A plain value is read where it stands.
+use Rattle.value.proofs.NumberLaws.{plain-read}
+use borrow.Author.Needs.{needs}
 use Rattle.value.proofs.numbers.number_at.Statement.{statement}
 use Rattle.value.proofs.numbers.number_at.Tie as tie
 
-abbrev Inv-loop : tie.InvT-loop
-Inv-loop raw s₀ i₀ s i = Scanned numberStep numberStart raw i s
+is-plain-requires : tie.Need-is-plain-requires
+is-plain-requires c κs = search needs
 
-abbrev μ-loop : tie.MeasureT-loop
-μ-loop raw s₀ i₀ s i = length raw - i
+number-of-requires : tie.Need-number-of-requires
+number-of-requires c κs = search needs
 
-start-requires : tie.Need-start-requires Inv-loop μ-loop
-start-requires c κs = tt
+returns : tie.Need-returns
+returns c = plain-read (c .before .before .is-plain .ensures) (c .before .if1 .taken) (c .number-of .ensures)
 
-loop-holds : tie.Need-loop-holds Inv-loop μ-loop
-loop-holds c = scanned-none numberStep numberStart _ (c .start .ensures)
+number-walk-requires : tie.Need-number-walk-requires
+number-walk-requires c κs = search needs
 
-unit-requires : tie.Need-unit-requires Inv-loop μ-loop
-unit-requires c κs = omega arith
-
-enum-known-p : tie.Need-enum-known-p Inv-loop μ-loop
-enum-known-p c = c .match .keys1
-
-returns : tie.Need-returns Inv-loop μ-loop
-unfolding numberRead
-returns c = scanned-fail numberStep numberStart (λ v q. q ≡ numberRead (numberOf v)) (numberRead noNumber) (c .before .before .before .loop .inv) (c .match .keys2) (c .before .unit .ensures) refl
-
-number-char-requires : tie.Need-number-char-requires Inv-loop μ-loop
-number-char-requires c κs = taken (c .before .p .given .1) (c .before .before .before .unit .ensures) .code-point
-
-loop-less : tie.Need-loop-less Inv-loop μ-loop
-loop-less c = let t = taken (c .before .before .p .given .1) (c .before .before .before .before .unit .ensures) in let a = t .from in let b = t .upto in omega arith
-
-loop-again : tie.Need-loop-again Inv-loop μ-loop
-loop-again c = scanned-next numberStep numberStart (c .before .before .before .before .before .before .loop .inv) (taken (c .before .before .p .given .1) (c .before .before .before .before .unit .ensures)) (c .number-char .ensures)
-
-end-requires : tie.Need-end-requires Inv-loop μ-loop
-end-requires c κs = tt
-
-returns-2 : tie.Need-returns-2 Inv-loop μ-loop
-returns-2 c = scanned-end numberStep numberStart (λ v q. q ≡ numberRead (numberOf v)) (numberRead noNumber) (c .before .before .loop .inv) (c .before .loop-test .left) (λ v e. c .end .ensures ∙ ap numberEnd e ∙ number-exact v)
+returns-2 : tie.Need-returns-2
+returns-2 c = search needs
 
 pub number-at-spec : {M : Type 1} → statement M
-number-at-spec =
-    tie.close
-    (tie.spec
-    Inv-loop
-    μ-loop
-    start-requires
-    loop-holds
-    unit-requires
-    enum-known-p
-    returns
-    number-char-requires
-    loop-less
-    loop-again
-    end-requires
-    returns-2)
+number-at-spec = tie.close (tie.spec is-plain-requires number-of-requires returns number-walk-requires returns-2)

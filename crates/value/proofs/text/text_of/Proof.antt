@@ -4,8 +4,8 @@ use borrow.Author.Needs.{needs}
 use Rattle.value.proofs.text.text_of.Statement.{statement}
 use Rattle.value.proofs.text.text_of.Tie as tie
 
-decoded-len-requires : tie.Need-decoded-len-requires
-decoded-len-requires c κs = search needs
+text-len-requires : tie.Need-text-len-requires
+text-len-requires c κs = search needs
 
 enum-known-l : tie.Need-enum-known-l
 enum-known-l c = search needs
@@ -14,7 +14,7 @@ enum-told : tie.Need-enum-told
 enum-told c = search needs
 
 returns : tie.Need-returns
-returns c = answer-not _ _ _ (c .enum-told .given .1) (c .before .before .decoded-len .ensures)
+returns c = answer-not _ _ _ (c .enum-told .given .1) (c .before .before .text-len .ensures)
 
 is-quotable-requires : tie.Need-is-quotable-requires
 is-quotable-requires c κs = search needs
@@ -26,25 +26,25 @@ is-as-read-requires : tie.Need-is-as-read-requires
 is-as-read-requires c κs = search needs
 
 returns-3 : tie.Need-returns-3
-returns-3 c = answer-stands _ _ _ (c .before .before .before .is-quotable .ensures) (c .before .before .if1 .left) (c .before .is-as-read .ensures) (c .if2 .taken) (length-known (c .before .before .before .before .before .l .given .1) (c .before .before .before .before .before .before .before .decoded-len .ensures))
+returns-3 c = answer-stands _ _ _ (c .before .before .before .is-quotable .ensures) (c .before .before .if1 .left) (c .before .is-as-read .ensures) (c .if2 .taken) (length-known (c .before .before .before .before .before .l .given .1) (c .before .before .before .before .before .before .before .text-len .ensures))
 
 returns-4 : tie.Need-returns-4
-returns-4 c = answer-short _ _ _ (c .before .before .before .before .is-quotable .ensures) (c .before .before .before .if1 .left) (c .before .before .is-as-read .ensures) (c .before .if2 .left) (length-known (c .before .before .before .before .before .before .l .given .1) (c .before .before .before .before .before .before .before .before .decoded-len .ensures)) (c .if3 .taken)
+returns-4 c = answer-short _ _ _ (c .before .before .before .before .is-quotable .ensures) (c .before .before .before .if1 .left) (c .before .before .is-as-read .ensures) (c .before .if2 .left) (length-known (c .before .before .before .before .before .before .l .given .1) (c .before .before .before .before .before .before .before .before .text-len .ensures)) (c .if3 .taken)
 
 decode-requires : tie.Need-decode-requires
-decode-requires c κs = answer-fits (length-known (c .before .before .before .before .before .before .before .l .given .1) (c .before .before .before .before .before .before .before .before .before .decoded-len .ensures)) (c .before .if3 .left)
+decode-requires c κs = answer-fits (length-known (c .before .before .before .before .before .before .before .l .given .1) (c .before .before .before .before .before .before .before .before .before .text-len .ensures)) (c .before .if3 .left)
 
 same-length : tie.Need-same-length
 same-length c = search needs
 
 returns-5 : tie.Need-returns-5
-returns-5 c = answer-decoded _ _ _ (c .before .before .before .before .before .before .before .before .is-quotable .ensures) (c .before .before .before .before .before .before .before .if1 .left) (c .before .before .before .before .before .before .is-as-read .ensures) (c .before .before .before .before .before .if2 .left) (length-known (c .before .before .before .before .before .before .before .before .before .before .l .given .1) (c .before .before .before .before .before .before .before .before .before .before .before .before .decoded-len .ensures)) (c .before .before .before .before .if3 .left) (c .before .before .decode .ensures)
+returns-5 c = answer-decoded _ _ _ (c .before .before .before .before .before .before .before .before .is-quotable .ensures) (c .before .before .before .before .before .before .before .if1 .left) (c .before .before .before .before .before .before .is-as-read .ensures) (c .before .before .before .before .before .if2 .left) (length-known (c .before .before .before .before .before .before .before .before .before .before .l .given .1) (c .before .before .before .before .before .before .before .before .before .before .before .before .text-len .ensures)) (c .before .before .before .before .if3 .left) (c .before .before .decode .ensures)
 
 pub text-of-spec : {M : Type 1} → statement M
 text-of-spec =
     tie.close
     (tie.spec
-    decoded-len-requires
+    text-len-requires
     enum-known-l
     enum-told
     returns

@@ -3,8 +3,8 @@ use Prim.Native.Nat.{_-_}
 use native.Mathlib.Omega.{arith}
 use lib.ListN.{length}
 use Rattle.value.proofs.DecodeLaws.{taken, Counted, counted-none, counted-more, counted-room, counted-end, counted-fail}
-use Rattle.value.proofs.decode.decoded_len.Statement.{statement}
-use Rattle.value.proofs.decode.decoded_len.Tie as tie
+use Rattle.value.proofs.decode.text_len.Statement.{statement}
+use Rattle.value.proofs.decode.text_len.Tie as tie
 
 abbrev Inv-loop : tie.InvT-loop
 Inv-loop raw i₀ n₀ i n = Counted raw i n
@@ -39,8 +39,8 @@ loop-again c = counted-more (c .before .before .before .before .before .before .
 returns-2 : tie.Need-returns-2 Inv-loop μ-loop
 returns-2 c = counted-end (c .before .loop .inv) (c .loop-test .left)
 
-pub decoded-len-spec : {M : Type 1} → statement M
-decoded-len-spec =
+pub text-len-spec : {M : Type 1} → statement M
+text-len-spec =
     tie.close
     (tie.spec
     Inv-loop

@@ -1,0 +1,46 @@
+-- Messages put together.
+use mathlib.Core.Path.{_≡_, refl, sym, ap, _∙_}
+use mathlib.Core.List.{[]}
+use mathlib.Core.Bool.{Bool, true, false, _||_, cond}
+use Prim.Native.Nat.{ℕ}
+use lib.Dec.{eqb}
+use borrow.Author.Tests.{ne-eqb, eq-eqb}
+use Rattle.message.specs.Fields.{serviceFrom, noticeFrom, boardFrom, readyFrom, startFrom, transferFrom, aliveFrom, only, messageFrom, blank}
+use Rattle.message.specs.Checked.{unread, judgedTo}
+use Rattle.message.specs.declared.checking.Checked.{Checked}
+use Rattle.message.specs.declared.kinds.ServiceDescription.{ServiceDescription as Service}
+use Rattle.message.specs.declared.kinds.Notification.{Notification as Notice}
+use Rattle.message.specs.declared.kinds.BoardAvailable.{BoardAvailable as Board}
+use Rattle.message.specs.declared.kinds.MachineReady.{MachineReady as Ready}
+use Rattle.message.specs.declared.kinds.StartTransport.{StartTransport as Start}
+use Rattle.message.specs.declared.kinds.Transfer.{Transfer}
+use Rattle.message.specs.declared.kinds.CheckAlive.{CheckAlive as Alive}
+use Rattle.message.specs.declared.kinds.Message.{Message}
+
+pub blank-made : (k : ℕ) {a : Service} {b : Notice} {c : Board} {d : Ready} {e : Start} {f : Transfer} {g : Alive}
+    → a ≡ serviceFrom [] → b ≡ noticeFrom [] → c ≡ boardFrom [] → d ≡ readyFrom [] → e ≡ startFrom [] → f ≡ transferFrom [] → g ≡ aliveFrom []
+    → _≡_ {A = Message} (record { kind = k; service = a; notification = b; board = c; ready = d; transport = e; transfer = f; alive = g }) (blank k)
+blank-made k p q r s t u v = cc
+
+no-fields : (b : Bool) → only b [] ≡ []
+no-fields true = refl
+no-fields false = refl
+
+-- without fields nothing is there
+pub none-there : (k : ℕ) → messageFrom k [] ≡ blank k
+unfolding messageFrom
+none-there k =
+    blank-made k (ap serviceFrom (no-fields (eqb k 1))) (ap noticeFrom (no-fields (eqb k 2))) (ap boardFrom (no-fields (eqb k 3))) (ap readyFrom (no-fields (eqb k 5))) (ap startFrom (no-fields (eqb k 7)))
+    (ap transferFrom (no-fields (eqb k 8 || eqb k 9))) (ap aliveFrom (no-fields (eqb k 10)))
+
+abbrev answered : ℕ → ℕ → ℕ → Message → Checked
+answered n start end m = record { refusal = n; start = start; end = end; place = 0; message = m }
+
+pub is-refused : (n start end k : ℕ) (m : Message) {b : Message} → (n ≡ 0 → ⊥) → b ≡ blank k → answered n start end b ≡ judgedTo start end k n m
+is-refused n start end k m h e = ap (answered n start end) (e ∙ sym (ap (λ (z : Bool). cond z m (blank k)) (ne-eqb n 0 h)))
+
+pub is-accepted : (n start end k : ℕ) (m : Message) → n ≡ 0 → answered n start end m ≡ judgedTo start end k n m
+is-accepted n start end k m h = ap (answered n start end) (sym (ap (λ (z : Bool). cond z m (blank k)) (eq-eqb n 0 h)))
+
+pub is-unread : (n start place : ℕ) {b : Message} → b ≡ blank 0 → _≡_ {A = Checked} (record { refusal = n; start = start; end = 0; place = place; message = b }) (unread n start place)
+is-unread n start place e = cc

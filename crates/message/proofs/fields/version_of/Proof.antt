@@ -1,0 +1,64 @@
+-- Each answer by what was found.
+use mathlib.Core.Bool.{true, false}
+use native.Mathlib.Omega.{arith}
+use Rattle.message.specs.Table.{words, someWords, whole, guid, version, positive}
+use Rattle.message.specs.Held.{textOf, intOf, sizeOf, idOf}
+use Rattle.value.specs.declared.text.Words.the-variants.{Absent, Present}
+use Rattle.message.proofs.FieldLaws.{there, tries-absent, tries-present, no-text, no-whole, no-size, no-guid, with-place}
+use borrow.Author.Needs.{needs}
+use Rattle.message.proofs.fields.version_of.Statement.{statement}
+use Rattle.message.proofs.fields.version_of.Tie as tie
+use Rattle.message.proofs.fields.version_of.Reads as reads
+use Rattle.message.proofs.fields.version_of.Lts as lts
+use Rattle.message.proofs.fields.missing.Reads as missing-reads
+use Rattle.message.proofs.find.find.Reads as find-reads
+use Rattle.message.proofs.judge.version.Reads as version-reads
+
+find-requires : tie.Need-find-requires
+find-requires c κs = search needs
+
+enum-known-w : tie.Need-enum-known-w
+enum-known-w c = search needs
+
+enum-told : tie.Need-enum-told
+enum-told c = search needs
+
+missing-requires : tie.Need-missing-requires
+missing-requires c κs = search needs
+
+returns : tie.Need-returns
+returns c = tries-absent (c .before .before .before .find .ensures) textOf (version) (false) (c .before .enum-told .given .1) (no-text _ false (c .missing .ensures))
+
+add-version : tie.Need-add-version
+add-version c = let z = there (c .before .before .before .find .ensures) (c .before .before .before .before .before .before .before .pre) (c .before .w .given .0 .0) (c .before .w .given .1) .inside in omega arith
+
+sub-version : tie.Need-sub-version
+sub-version c = search needs
+
+part-version-start : tie.Need-part-version-start
+part-version-start c = search needs
+
+part-version-end : tie.Need-part-version-end
+part-version-end c = let z = there (c .before .before .before .find .ensures) (c .before .before .before .before .before .before .before .pre) (c .before .w .given .0 .0) (c .before .w .given .1) .inside in omega arith
+
+version-requires : tie.Need-version-requires
+version-requires c κs = search needs
+
+returns-2 : tie.Need-returns-2
+returns-2 c = tries-present (c .before .before .before .before .before .find .ensures) textOf (version) (false) (c .before .before .before .w .given .0 .0) (c .before .before .before .w .given .1) (with-place _ (c .version .ensures))
+
+pub version-of-spec : {M : Type 1} → statement M
+version-of-spec =
+    tie.close
+    (tie.spec
+    find-requires
+    enum-known-w
+    enum-told
+    missing-requires
+    returns
+    add-version
+    sub-version
+    part-version-start
+    part-version-end
+    version-requires
+    returns-2)

@@ -1,0 +1,21 @@
+// The values that messages hand out.
+
+/// An int, if it is there.
+pub enum Whole {
+    Absent,
+    Present(u32),
+}
+
+/// A positive number in millionths, if it is there.
+pub enum Measure {
+    Absent,
+    Present(u64),
+}
+
+/// Whether SupportedFeatures is there, and which features stand in it.
+pub struct Features {
+    pub there: bool,
+    pub forecast: bool,
+    pub query: bool,
+    pub send: bool,
+}

@@ -1,0 +1,6 @@
+pub mod Written
+pub mod Characters
+pub mod Put
+pub mod Writes
+pub mod Quoted
+pub mod Examples

@@ -1,0 +1,57 @@
+-- The bytes that the writer puts down for a text, for an Int and for a decimal.
+use mathlib.Core.List.{[], _∷_, _++_}
+use mathlib.Core.Bool.{cond}
+use Prim.Native.Nat.{ℕ, zero, suc, _+_, _/_, _%_, _^_}
+use Prim.Native.Char.{code}
+use lib.Dec.{eqb, ltb}
+use Rattle.grammar.specs.Bytes.{Bytes, text}
+use Rattle.number.specs.Bytes.{zeroDigit, dropBack}
+use Rattle.number.specs.Positive.{BEHIND}
+
+-- "Text characters `& < > "` become `&amp; &lt; &gt; &quot;`, and 9, 10, 13 become `&#9; &#10; &#13;`."
+unfoldable pub escapeByte : ℕ → Bytes
+escapeByte b =
+    cond (eqb (code "&") b) (text "&amp;")
+    (cond (eqb (code "<") b) (text "&lt;")
+    (cond (eqb (code ">") b) (text "&gt;")
+    (cond (eqb (code "\"") b) (text "&quot;")
+    (cond (eqb 9 b) (text "&#9;")
+    (cond (eqb 10 b) (text "&#10;")
+    (cond (eqb 13 b) (text "&#13;")
+    (b ∷ [])))))))
+
+-- a text, byte by byte
+unfoldable pub escape : Bytes → Bytes
+escape [] = []
+escape (b ∷ s) = escapeByte b ++ escape s
+
+-- the last digit of a number
+abbrev pub lastDigit : ℕ → ℕ
+lastDigit n = code "0" + n % 10
+
+-- the digits of n, if there are no more than k
+unfoldable pub digitsOf : ℕ → ℕ → Bytes
+digitsOf zero n = []
+digitsOf (suc k) n = cond (ltb n 10) (lastDigit n ∷ []) (digitsOf k (n / 10) ++ lastDigit n ∷ [])
+
+-- "Ints without sign or leading zero"
+unfoldable pub printInt : ℕ → Bytes
+printInt n = digitsOf (suc n) n
+
+-- the last k digits of n
+unfoldable pub places : ℕ → ℕ → Bytes
+places zero n = []
+places (suc k) n = places k (n / 10) ++ lastDigit n ∷ []
+
+-- digits behind a point, and no point without a digit
+unfoldable pub behindPoint : Bytes → Bytes
+behindPoint [] = []
+behindPoint (b ∷ g) = code "." ∷ b ∷ g
+
+-- millionths below a whole, behind a point and with no zeros at the end
+abbrev pub printPart : ℕ → Bytes
+printPart n = behindPoint (dropBack zeroDigit (places BEHIND n))
+
+-- "decimals with no needless zero, `0.5` for 500000"; from millionths
+unfoldable pub printDecimal : ℕ → Bytes
+printDecimal x = printInt (x / 10 ^ BEHIND) ++ printPart (x % 10 ^ BEHIND)
