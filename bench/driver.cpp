@@ -1,5 +1,6 @@
-// Times reading: this library's read, and the XML parsers that users would take instead, on the same messages in one run.
+// Times reading and checking: this library's calls, and the XML parsers that users would take instead, on the same messages in one run.
 // The peers are given each message's bytes; this library finds the cut itself. Best of several rounds.
+// For checking each peer's handler tries the attributes of a BoardAvailable and keeps their values; all must come to the same sum.
 #include <expat.h>
 #include <libxml/parser.h>
 #include <pugixml.hpp>
@@ -14,6 +15,7 @@
 #include <vector>
 
 extern "C" uint8_t tryphomel_read(const uint8_t *bytes, size_t length, uint64_t *start, uint64_t *place);
+extern "C" uint8_t tryphomel_check(const uint8_t *bytes, size_t length, uint64_t *end, uint64_t *kind, uint64_t *long_side, uint64_t *failed);
 
 namespace {
 
@@ -114,6 +116,202 @@ bool by_rapidxml(std::string &m) {
     return d.first_node() != nullptr;
 }
 
+// A BoardAvailable as a user of a peer would hold it.
+struct Board {
+    char id[36];
+    unsigned ints[2];
+    uint64_t sizes[7];
+    const char *texts[5];
+    size_t lengths[5];
+    unsigned there;
+    bool bad;
+};
+
+bool is_blank(char c) { return c == ' ' || c == '\t' || c == '\r' || c == '\n'; }
+
+void trim(const char *&a, const char *&e) {
+    while (a < e && is_blank(*a)) a++;
+    while (a < e && is_blank(e[-1])) e--;
+}
+
+bool to_int(const char *a, const char *e, unsigned lo, unsigned hi, unsigned &out) {
+    trim(a, e);
+    bool minus = a < e && *a == '-';
+    if (a < e && (*a == '-' || *a == '+')) a++;
+    if (a == e) return false;
+    unsigned n = 0;
+    for (; a < e; a++) {
+        if (*a < '0' || *a > '9') return false;
+        n = n > 65535 ? n : n * 10 + (unsigned)(*a - '0');
+    }
+    out = n;
+    return n >= lo && n <= hi && !(minus && n);
+}
+
+bool to_millionths(const char *a, const char *e, uint64_t &out) {
+    trim(a, e);
+    if (a < e && *a == '+') a++;
+    uint64_t n = 0;
+    unsigned digits = 0, scale = 0;
+    bool point = false;
+    for (; a < e; a++) {
+        if (*a == '.') {
+            if (point) return false;
+            point = true;
+            continue;
+        }
+        if (*a < '0' || *a > '9') return false;
+        digits++;
+        if (point) {
+            if (scale == 6) {
+                if (*a != '0') return false;
+                continue;
+            }
+            scale++;
+        } else if (n > 999999) {
+            return false;
+        }
+        n = n * 10 + (uint64_t)(*a - '0');
+    }
+    for (; scale < 6; scale++) n *= 10;
+    out = n;
+    return digits && n;
+}
+
+bool to_guid(const char *a, size_t n, char *out) {
+    if (n != 36) return false;
+    for (size_t i = 0; i < 36; i++) {
+        bool hyphen = i == 8 || i == 13 || i == 18 || i == 23;
+        if (hyphen ? a[i] != '-' : !((a[i] >= '0' && a[i] <= '9') || (a[i] >= 'a' && a[i] <= 'f'))) return false;
+    }
+    memcpy(out, a, 36);
+    return true;
+}
+
+struct Name {
+    const char *text;
+    size_t length;
+};
+
+// In table order.
+const Name NAMES[15] = {{"BoardId", 7}, {"BoardIdCreatedBy", 16}, {"FailedBoard", 11}, {"ProductTypeId", 13}, {"FlippedBoard", 12},
+                        {"TopBarcode", 10}, {"BottomBarcode", 13}, {"Length", 6}, {"Width", 5}, {"Thickness", 9}, {"ConveyorSpeed", 13},
+                        {"TopClearanceHeight", 18}, {"BottomClearanceHeight", 21}, {"Weight", 6}, {"WorkOrderId", 11}};
+
+bool keep(Board &b, unsigned row, const char *v, size_t n) {
+    auto text = [&](unsigned k, size_t most) { return b.texts[k] = v, b.lengths[k] = n, n <= most; };
+    switch (row) {
+        case 0: return to_guid(v, n, b.id);
+        case 1: return text(0, 80) && n > 0;
+        case 2: return to_int(v, v + n, 0, 2, b.ints[0]);
+        case 3: return text(1, 254);
+        case 4: return to_int(v, v + n, 0, 2, b.ints[1]);
+        case 5: return text(2, 254);
+        case 6: return text(3, 254);
+        case 14: return text(4, 80);
+        default: return to_millionths(v, v + n, b.sizes[row - 7]);
+    }
+}
+
+void attribute(Board &b, const char *name, size_t length, const char *value, size_t n) {
+    for (unsigned row = 0; row < 15; row++)
+        if (NAMES[row].length == length && memcmp(NAMES[row].text, name, length) == 0) {
+            b.there |= 1u << row;
+            if (!keep(b, row, value, n)) b.bad = true;
+            return;
+        }
+}
+
+// What is added up, so that all is read and all read the same.
+struct Sum {
+    uint64_t accepted = 0, lengths = 0, failed = 0;
+    void add(bool good, uint64_t length, uint64_t fail) {
+        if (!good) return;
+        accepted++;
+        lengths += length;
+        failed += fail;
+    }
+    bool operator==(const Sum &o) const { return accepted == o.accepted && lengths == o.lengths && failed == o.failed; }
+};
+
+bool good(const Board &b) { return !b.bad && (b.there & 0x17u) == 0x17u; }
+
+void add_board(Sum &sum, const Board &b) { sum.add(good(b), (b.there >> 7 & 1) ? b.sizes[0] : 0, b.ints[0]); }
+
+struct State {
+    unsigned depth = 0;
+    Board board{};
+};
+
+template <typename C>
+void take_element(void *user, const C *name, const C **pairs) {
+    State &s = *static_cast<State *>(user);
+    if (++s.depth != 2 || strcmp((const char *)name, "BoardAvailable") != 0) return;
+    for (; pairs && pairs[0]; pairs += 2)
+        attribute(s.board, (const char *)pairs[0], strlen((const char *)pairs[0]), (const char *)pairs[1], strlen((const char *)pairs[1]));
+}
+
+void XMLCALL expat_element(void *user, const XML_Char *name, const XML_Char **pairs) { take_element(user, name, pairs); }
+void XMLCALL expat_close(void *user, const XML_Char *) { static_cast<State *>(user)->depth--; }
+void sax_element(void *user, const xmlChar *name, const xmlChar **pairs) { take_element(user, name, pairs); }
+void sax_close(void *user, const xmlChar *) { static_cast<State *>(user)->depth--; }
+
+struct Checker {
+    const char *name;
+    std::function<bool(std::string &, Sum &)> run;
+};
+
+bool check_by_expat(std::string &m, Sum &sum) {
+    static XML_Parser p = XML_ParserCreate(nullptr);
+    State s;
+    XML_ParserReset(p, nullptr);
+    XML_SetUserData(p, &s);
+    XML_SetElementHandler(p, expat_element, expat_close);
+    if (XML_Parse(p, m.data(), (int)m.size(), 1) != XML_STATUS_OK) return false;
+    add_board(sum, s.board);
+    return true;
+}
+
+bool check_by_libxml2(std::string &m, Sum &sum) {
+    static xmlSAXHandler h = [] {
+        xmlSAXHandler x;
+        memset(&x, 0, sizeof x);
+        x.startElement = sax_element;
+        x.endElement = sax_close;
+        return x;
+    }();
+    State s;
+    if (xmlSAXUserParseMemory(&h, &s, m.data(), (int)m.size()) != 0) return false;
+    add_board(sum, s.board);
+    return true;
+}
+
+bool check_by_pugixml(std::string &m, Sum &sum) {
+    static pugi::xml_document d;
+    copy.assign(m.begin(), m.end());
+    if (!d.load_buffer_inplace(copy.data(), copy.size())) return false;
+    Board b{};
+    pugi::xml_node child = d.document_element().first_child();
+    if (strcmp(child.name(), "BoardAvailable") == 0)
+        for (auto a = child.first_attribute(); a; a = a.next_attribute()) attribute(b, a.name(), strlen(a.name()), a.value(), strlen(a.value()));
+    add_board(sum, b);
+    return true;
+}
+
+bool check_by_rapidxml(std::string &m, Sum &sum) {
+    static rapidxml::xml_document<> d;
+    copy.assign(m.begin(), m.end());
+    copy.push_back(0);
+    d.clear();
+    d.parse<0>(copy.data());
+    Board b{};
+    auto *child = d.first_node()->first_node();
+    if (child->name_size() == 14 && memcmp(child->name(), "BoardAvailable", 14) == 0)
+        for (auto *a = child->first_attribute(); a; a = a->next_attribute()) attribute(b, a->name(), a->name_size(), a->value(), a->value_size());
+    add_board(sum, b);
+    return true;
+}
+
 double seconds(const std::function<bool()> &f) {
     double best = 1e9;
     for (int round = 0; round < 7; round++) {
@@ -165,6 +363,41 @@ void table(const char *title, Stream s, const std::vector<Peer> &peers) {
     }
 }
 
+// Nanoseconds a byte, with the values read.
+double ours_checked(const Stream &s, Sum &sum) {
+    std::string run;
+    for (auto &m : s) run += m;
+    return 1e9 / (double)run.size() * seconds([&] {
+               size_t at = 0;
+               sum = Sum();
+               while (at < run.size()) {
+                   uint64_t end, kind, length, failed;
+                   uint8_t refusal = tryphomel_check((const uint8_t *)run.data() + at, run.size() - at, &end, &kind, &length, &failed);
+                   if (refusal != 0 || kind != 3) return false;
+                   sum.add(true, length, failed);
+                   at += end;
+               }
+               return sum.accepted == s.size();
+           });
+}
+
+void check_table(const char *title, Stream s, const std::vector<Checker> &peers) {
+    Sum sum;
+    double t = ours_checked(s, sum);
+    printf("%s, values read: %zu messages, %zu bytes each on average\n", title, s.size(), size_of(s) / s.size());
+    printf("  %-12s %7.3f ns a byte\n", "tryphomel", t);
+    for (auto &p : peers) {
+        Sum theirs;
+        double u = 1e9 / (double)size_of(s) * seconds([&] {
+                       theirs = Sum();
+                       for (auto &m : s)
+                           if (!p.run(m, theirs)) return false;
+                       return theirs == sum;
+                   });
+        printf("  %-12s %7.3f ns a byte; tryphomel has %.2f times its throughput%s\n", p.name, u, u / t, u < 0 ? " (NOT THE SAME VALUES)" : "");
+    }
+}
+
 Stream many(unsigned n, const std::function<std::string()> &f) {
     Stream s;
     for (unsigned i = 0; i < n; i++) s.push_back(f());
@@ -176,7 +409,11 @@ Stream many(unsigned n, const std::function<std::string()> &f) {
 int main() {
     xmlInitParser();
     std::vector<Peer> peers = {{"expat", by_expat}, {"libxml2 SAX", by_libxml2}, {"pugixml", by_pugixml}, {"rapidxml", by_rapidxml}};
-    table("BoardAvailable", many(4000, board_available), peers);
+    Stream boards = many(4000, board_available);
+    table("BoardAvailable", boards, peers);
+    std::vector<Checker> checkers = {
+        {"expat", check_by_expat}, {"libxml2 SAX", check_by_libxml2}, {"pugixml", check_by_pugixml}, {"rapidxml", check_by_rapidxml}};
+    check_table("BoardAvailable", boards, checkers);
     table("CheckAlive", many(20000, [] { return std::string("<Hermes><CheckAlive Type=\"1\" Id=\"42\"/></Hermes>"); }), peers);
     table("one value of 60,000 bytes", many(40, [] { return long_value(60000); }), peers);
     table("10,000 siblings", many(40, [] { return siblings(10000); }), peers);

@@ -1,14 +1,14 @@
 use borrow.Author.Needs.{needs}
 use mathlib.Core.Path.{_≡_}
 use lib.ListN.{length}
-use Rattle.reader_cases.proofs.fill.Statement.{statement}
-use Rattle.reader_cases.proofs.fill.Tie as tie
+use Rattle.reader_cases.proofs.run.Statement.{statement}
+use Rattle.reader_cases.proofs.run.Tie as tie
 
 abbrev Inv-loop : tie.InvT-loop
-Inv-loop out₀ from upto b len₀ left₀ out len left = length out ≡ length out₀
+Inv-loop text out₀ at₀ left₀ out at left = length out ≡ length out₀
 
 abbrev μ-loop : tie.MeasureT-loop
-μ-loop out₀ from upto b len₀ left₀ out len left = left
+μ-loop text out₀ at₀ left₀ out at left = left
 
 loop-holds : tie.Need-loop-holds Inv-loop μ-loop
 loop-holds c = search needs
@@ -19,8 +19,11 @@ same-length c = search needs
 returns : tie.Need-returns Inv-loop μ-loop
 returns c = search needs
 
-push-requires : tie.Need-push-requires Inv-loop μ-loop
-push-requires c κs = search needs
+input-requires : tie.Need-input-requires Inv-loop μ-loop
+input-requires c κs = search needs
+
+answer-requires : tie.Need-answer-requires Inv-loop μ-loop
+answer-requires c κs = search needs
 
 sub-left : tie.Need-sub-left Inv-loop μ-loop
 sub-left c = search needs
@@ -37,8 +40,8 @@ same-length-2 c = search needs
 returns-2 : tie.Need-returns-2 Inv-loop μ-loop
 returns-2 c = search needs
 
-pub fill-spec : {M : Type 1} → statement M
-fill-spec =
+pub run-spec : {M : Type 1} → statement M
+run-spec =
     tie.close
     (tie.spec
     Inv-loop
@@ -46,7 +49,8 @@ fill-spec =
     loop-holds
     same-length
     returns
-    push-requires
+    input-requires
+    answer-requires
     sub-left
     loop-less
     loop-again

@@ -2,8 +2,8 @@ use borrow.Author.Needs.{needs}
 use mathlib.Core.Path.{_≡_}
 use Prim.Native.Nat.{_-_}
 use lib.ListN.{length}
-use Rattle.reader_cases.proofs.bytes.Statement.{statement}
-use Rattle.reader_cases.proofs.bytes.Tie as tie
+use Rattle.cases.proofs.bytes.Statement.{statement}
+use Rattle.cases.proofs.bytes.Tie as tie
 
 abbrev Inv-loop : tie.InvT-loop
 Inv-loop text at out₀ i₀ len₀ last₀ out i len last = length out ≡ length out₀

@@ -1,14 +1,14 @@
 use borrow.Author.Needs.{needs}
 use mathlib.Core.Path.{_≡_}
 use lib.ListN.{length}
-use Rattle.reader_cases.proofs.cases.Statement.{statement}
-use Rattle.reader_cases.proofs.cases.Tie as tie
+use Rattle.cases.proofs.fill.Statement.{statement}
+use Rattle.cases.proofs.fill.Tie as tie
 
 abbrev Inv-loop : tie.InvT-loop
-Inv-loop text out₀ at₀ left₀ out at left = length out ≡ length out₀
+Inv-loop out₀ from upto b len₀ left₀ out len left = length out ≡ length out₀
 
 abbrev μ-loop : tie.MeasureT-loop
-μ-loop text out₀ at₀ left₀ out at left = left
+μ-loop out₀ from upto b len₀ left₀ out len left = left
 
 loop-holds : tie.Need-loop-holds Inv-loop μ-loop
 loop-holds c = search needs
@@ -19,8 +19,8 @@ same-length c = search needs
 returns : tie.Need-returns Inv-loop μ-loop
 returns c = search needs
 
-case-requires : tie.Need-case-requires Inv-loop μ-loop
-case-requires c κs = search needs
+push-requires : tie.Need-push-requires Inv-loop μ-loop
+push-requires c κs = search needs
 
 sub-left : tie.Need-sub-left Inv-loop μ-loop
 sub-left c = search needs
@@ -37,8 +37,8 @@ same-length-2 c = search needs
 returns-2 : tie.Need-returns-2 Inv-loop μ-loop
 returns-2 c = search needs
 
-pub cases-spec : {M : Type 1} → statement M
-cases-spec =
+pub fill-spec : {M : Type 1} → statement M
+fill-spec =
     tie.close
     (tie.spec
     Inv-loop
@@ -46,7 +46,7 @@ cases-spec =
     loop-holds
     same-length
     returns
-    case-requires
+    push-requires
     sub-left
     loop-less
     loop-again

@@ -1,8 +1,8 @@
 use borrow.Author.Needs.{needs}
 use Prim.Native.Nat.{_≤_, _-_}
 use lib.ListN.{length}
-use Rattle.reader_cases.proofs.tab.Statement.{statement}
-use Rattle.reader_cases.proofs.tab.Tie as tie
+use Rattle.cases.proofs.tab.Statement.{statement}
+use Rattle.cases.proofs.tab.Tie as tie
 
 abbrev Inv-loop : tie.InvT-loop
 Inv-loop text at i₀ i = at ≤ i
