@@ -4,4 +4,5 @@ pub mod PrintLaws
 pub mod MarkLaws
 pub mod DecimalLaws
 pub mod TextLaws
+pub mod DecidedLaws
 pub mod Theorems

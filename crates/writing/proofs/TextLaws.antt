@@ -22,7 +22,7 @@ use Rattle.tags.specs.declared.Piece.{Piece}
 use Rattle.tags.specs.declared.Piece.the-variants.{Got, Open, Bad}
 use Rattle.writing.specs.Characters.{spell, IsText, TextSays, noBan}
 
-character-exact : Exact (IsRaw noBan) (charP noBan)
+pub character-exact : Exact (IsRaw noBan) (charP noBan)
 unfolding plainByte isChar within
 character-exact = char-exact noBan (λ c h. refl) 65 refl
 
@@ -50,7 +50,7 @@ pub along-start : (v : Bytes) → Along v 0
 along-start v = record { upto = omega arith; to = λ t. t; from = λ t. t }
 
 -- a text with a byte begins with a character
-first : {w : Bytes} → 0 < length w → IsText w → (c : ℕ) × (l : List ℕ) × (charP noBan w ≡ done c (spell l)) × (every isChar l ≡ true)
+pub first : {w : Bytes} → 0 < length w → IsText w → (c : ℕ) × (l : List ℕ) × (charP noBan w ≡ done c (spell l)) × (every isChar l ≡ true)
 first {w} h t = go (t .chars) (t .good) (t .spelt)
   where
     go : (l : List ℕ) → every isChar l ≡ true → w ≡ spell l → (c : ℕ) × (l : List ℕ) × (charP noBan w ≡ done c (spell l)) × (every isChar l ≡ true)

@@ -16,10 +16,16 @@ use Rattle.writing.specs.Written.{escape, printInt, places, behindPoint,
 use Rattle.writing.specs.Characters.{IsText, TextSays}
 use Rattle.writing.specs.Put.{Wrote}
 use Rattle.writing.specs.Quoted.{InQuotes, AsIs}
+use Rattle.writing.specs.Decided.{isText}
 use Rattle.writing.proofs.EscapeLaws as escapes
 use Rattle.writing.proofs.PrintLaws.{print-small, print-more, int-digital, int-short}
 use Rattle.writing.proofs.MarkLaws.{digits-marks, marks-as-is, guid-marks, version-marks, digits-int}
 use Rattle.writing.proofs.DecimalLaws as decimals
+use Rattle.writing.proofs.DecidedLaws as decided
+
+-- the test decides which bytes are a text
+pub text-decided : (v : Bytes) → TextSays v (isText v)
+text-decided v = decided.text-decided v
 
 -- a text, written between double quotes, reads as itself
 pub escape-inverse : {v : Bytes} → IsText v → InQuotes (escape v) v

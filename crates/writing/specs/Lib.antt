@@ -4,3 +4,4 @@ pub mod Put
 pub mod Writes
 pub mod Quoted
 pub mod Examples
+pub mod Decided
