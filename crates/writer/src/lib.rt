@@ -2,4 +2,5 @@
 mod refusals;
 mod refused;
 
+pub use refusals::part;
 pub use refused::refusal_of;

@@ -1,0 +1,60 @@
+-- Piece by piece.
+use mathlib.Core.Path.{refl}
+use native.Mathlib.Omega.{arith}
+use Rattle.grammar.specs.Bytes.{text}
+use Rattle.emit.proofs.PieceLaws.{has-room, first-fits, rest-fits, last-put, and-put, all-put, none-put, same-put, same-fits}
+use Rattle.emit.proofs.WholeLaws.{transfer-is}
+use borrow.Author.Needs.{needs}
+use Rattle.emit.proofs.elements.put_transfer.Statement.{statement}
+use Rattle.emit.proofs.elements.put_transfer.Tie as tie
+use Rattle.emit.proofs.elements.put_transfer.Reads as reads
+use Rattle.emit.proofs.elements.put_transfer.Lts as lts
+use Rattle.emit.proofs.attributes.put_id.Reads as put-id-reads
+use Rattle.emit.proofs.attributes.put_whole.Reads as put-whole-reads
+use Rattle.writing.proofs.put.Reads as put-reads
+use Rattle.writing.proofs.put_byte.Reads as put-byte-reads
+
+put-byte-requires : tie.Need-put-byte-requires
+put-byte-requires c κs = first-fits (has-room (transfer-is (c .before .before .before .before .args .name .now) (c .before .before .before .before .args .v)) (c .before .before .before .before .pre))
+
+put-requires : tie.Need-put-requires
+put-requires c κs = first-fits (rest-fits (has-room (transfer-is (c .before .before .before .before .before .before .before .before .args .name .now) (c .before .before .before .before .before .before .before .before .args .v)) (c .before .before .before .before .before .before .before .before .pre)) (c .before .before .before .put-byte .ensures .next))
+
+slice-aggregate-put-whole : tie.Need-slice-aggregate-put-whole
+slice-aggregate-put-whole c = search needs
+
+put-whole-requires : tie.Need-put-whole-requires
+put-whole-requires c κs = first-fits (rest-fits (rest-fits (has-room (transfer-is (c .before .before .before .before .before .before .before .before .before .before .before .before .before .args .name .now) (c .before .before .before .before .before .before .before .before .before .before .before .before .before .args .v)) (c .before .before .before .before .before .before .before .before .before .before .before .before .before .pre)) (c .before .before .before .before .before .before .before .before .put-byte .ensures .next)) (c .before .before .before .before .put .ensures .next))
+
+slice-aggregate-put-id : tie.Need-slice-aggregate-put-id
+slice-aggregate-put-id c = search needs
+
+put-id-requires : tie.Need-put-id-requires
+put-id-requires c κs = first-fits (rest-fits (rest-fits (rest-fits (has-room (transfer-is (c .before .before .before .before .before .before .before .before .before .before .before .before .before .before .before .before .before .before .args .name .now) (c .before .before .before .before .before .before .before .before .before .before .before .before .before .before .before .before .before .before .args .v)) (c .before .before .before .before .before .before .before .before .before .before .before .before .before .before .before .before .before .before .pre)) (c .before .before .before .before .before .before .before .before .before .before .before .before .before .put-byte .ensures .next)) (c .before .before .before .before .before .before .before .before .before .put .ensures .next)) (c .before .before .before .before .put-whole .ensures .next))
+
+slice-aggregate-put : tie.Need-slice-aggregate-put
+slice-aggregate-put c = search needs
+
+put-requires-2 : tie.Need-put-requires-2
+put-requires-2 c κs = first-fits (rest-fits (rest-fits (rest-fits (rest-fits (has-room (transfer-is (c .before .before .before .before .before .before .before .before .before .before .before .before .before .before .before .before .before .before .before .before .before .before .before .args .name .now) (c .before .before .before .before .before .before .before .before .before .before .before .before .before .before .before .before .before .before .before .before .before .before .before .args .v)) (c .before .before .before .before .before .before .before .before .before .before .before .before .before .before .before .before .before .before .before .before .before .before .before .pre)) (c .before .before .before .before .before .before .before .before .before .before .before .before .before .before .before .before .before .before .put-byte .ensures .next)) (c .before .before .before .before .before .before .before .before .before .before .before .before .before .before .put .ensures .next)) (c .before .before .before .before .before .before .before .before .before .put-whole .ensures .next)) (c .before .before .before .before .put-id .ensures .next))
+
+same-length : tie.Need-same-length
+same-length c = search needs
+
+returns : tie.Need-returns
+returns c = all-put (transfer-is (c .before .before .before .before .before .before .before .before .before .before .before .before .before .before .before .before .before .before .before .before .before .before .before .before .before .before .args .name .now) (c .before .before .before .before .before .before .before .before .before .before .before .before .before .before .before .before .before .before .before .before .before .before .before .before .before .before .args .v)) (and-put (c .before .before .before .before .before .before .before .before .before .before .before .before .before .before .before .before .before .before .before .before .before .put-byte .ensures) (and-put (c .before .before .before .before .before .before .before .before .before .before .before .before .before .before .before .before .before .put .ensures) (and-put (c .before .before .before .before .before .before .before .before .before .before .before .before .put-whole .ensures) (and-put (c .before .before .before .before .before .before .before .put-id .ensures) (last-put (c .before .before .put2 .ensures))))))
+
+pub put-transfer-spec : {M : Type 1} → statement M
+put-transfer-spec =
+    tie.close
+    (tie.spec
+    put-byte-requires
+    put-requires
+    slice-aggregate-put-whole
+    put-whole-requires
+    slice-aggregate-put-id
+    put-id-requires
+    slice-aggregate-put
+    put-requires-2
+    same-length
+    returns)

@@ -1,0 +1,89 @@
+-- "refusal (0, 4, 5 or 6)": no reading is refused by another number.
+use mathlib.Core.Path.{_≡_, refl}
+use mathlib.Core.List.{List, [], _∷_}
+use mathlib.Core.Bool.{Bool, true, false, cond, _&&_, not}
+use Prim.Native.Nat.{ℕ, zero, suc, _≤_}
+use native.Mathlib.Omega.{arith}
+use lib.ListN.{length}
+use lib.Dec.{leb}
+use Rattle.number.specs.Whole.{Whole, noInt, int, intOf}
+use Rattle.number.specs.Positive.{number, Number, noNumber, numberOf}
+use Rattle.number.specs.Guid.{guidOf}
+use Rattle.number.specs.Version.{versionOf}
+use Rattle.grammar.specs.Bytes.{Bytes, within, some, same}
+use Rattle.grammar.specs.Tree.{Pair, Tree, tree, Forest, no-trees, tree-then}
+use Rattle.message.specs.Table.{Row, Form, words, someWords, whole, guid, version, positive, features}
+use Rattle.message.specs.Says.{Value, aText, anInt, anId, present, refused, TOO_LONG, when, ranged, measured, judged, without, given, nameOf, childrenOf, notes, featured, tried, refusalIn, first, refusalOf}
+
+pub data Refusal (n : ℕ) : Type 0 where
+  none-of-it : n ≡ 0 → Refusal n
+  refuses : 4 ≤ n → n ≤ 6 → Refusal n
+
+without-is : (z : Bool) → Refusal (refusalIn (without z))
+without-is true = none-of-it refl
+without-is false = refuses (omega arith) (omega arith)
+
+when-is : (z : Bool) (v : Value) → Refusal (refusalIn (when z v))
+when-is true v = none-of-it refl
+when-is false v = refuses (omega arith) (omega arith)
+
+ranged-is : (lo hi : ℕ) (x : Whole) → Refusal (refusalIn (ranged lo hi x))
+ranged-is lo hi noInt = refuses (omega arith) (omega arith)
+ranged-is lo hi (int minus n) = when-is (not minus && within lo hi n) (anInt n)
+
+measured-is : (x : Number) → Refusal (refusalIn (measured x))
+measured-is noNumber = refuses (omega arith) (omega arith)
+measured-is (number n) = none-of-it refl
+
+judged-is : (f : Form) (v : Bytes) → Refusal (refusalIn (judged f v))
+unfolding judged
+judged-is (words n) v = go (leb (length v) n)
+  where
+    go : (z : Bool) → Refusal (refusalIn (cond z (present (aText v)) (refused TOO_LONG)))
+    go true = none-of-it refl
+    go false = refuses (omega arith) (omega arith)
+judged-is (someWords n) v = go (leb (length v) n)
+  where
+    go : (z : Bool) → Refusal (refusalIn (cond z (when (some v) (aText v)) (refused TOO_LONG)))
+    go true = when-is (some v) (aText v)
+    go false = refuses (omega arith) (omega arith)
+judged-is (whole lo hi) v = ranged-is lo hi (intOf v)
+judged-is guid v = when-is (guidOf v) (anId v)
+judged-is version v = when-is (versionOf v) (aText v)
+judged-is positive v = measured-is (numberOf v)
+judged-is features v = refuses (omega arith) (omega arith)
+
+given-is : (f : Form) (o : Bool) (n : Bytes) (l : List Pair) → Refusal (refusalIn (given f o n l))
+given-is f o n [] = without-is o
+given-is f o n (p ∷ l) = go (same n (p .name)) (given-is f o n l)
+  where
+    go : (z : Bool) → Refusal (refusalIn (given f o n l)) → Refusal (refusalIn (cond z (judged f (p .value)) (given f o n l)))
+    go true h = judged-is f (p .value)
+    go false h = h
+
+featured-is : (n : Bytes) (o : Bool) (f : Forest) → Refusal (refusalIn (featured n o f))
+featured-is n o no-trees = without-is o
+featured-is n o (tree-then t f) = go (same n (nameOf t)) (featured-is n o f)
+  where
+    go : (z : Bool) → Refusal (refusalIn (featured n o f)) → Refusal (refusalIn (cond z (present (notes (childrenOf t))) (featured n o f)))
+    go true h = none-of-it refl
+    go false h = h
+
+tried-is : (n : Bytes) (x : Form) (o : Bool) (t : Tree) → Refusal (refusalIn (tried (record { name = n; form = x; optional = o }) t))
+unfolding tried
+tried-is n (words k) o (tree m a f) = given-is (words k) o n a
+tried-is n (someWords k) o (tree m a f) = given-is (someWords k) o n a
+tried-is n (whole lo hi) o (tree m a f) = given-is (whole lo hi) o n a
+tried-is n guid o (tree m a f) = given-is guid o n a
+tried-is n version o (tree m a f) = given-is version o n a
+tried-is n positive o (tree m a f) = given-is positive o n a
+tried-is n features o (tree m a f) = featured-is n o f
+
+pub refusal-is : (l : List Row) (t : Tree) → Refusal (refusalOf l t)
+unfolding refusalOf
+refusal-is [] t = none-of-it refl
+refusal-is (r ∷ l) t = go (refusalIn (tried r t)) (tried-is (r .name) (r .form) (r .optional) t) (refusal-is l t)
+  where
+    go : (n : ℕ) → Refusal n → Refusal (refusalOf l t) → Refusal (first n (refusalOf l t))
+    go zero h k = k
+    go (suc n) h k = h

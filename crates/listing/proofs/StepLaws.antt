@@ -1,0 +1,45 @@
+-- What a step drops lies in the window, and how it moves it.
+use mathlib.Core.Path.{_≡_, sym, ap, subst, _∙_}
+use mathlib.Core.Bool.{Bool, true, false}
+use Prim.Native.Nat.{ℕ, _+_, _-_, _≤_}
+use native.Mathlib.Omega.{arith}
+use lib.ListN.{length, length-drop, length-take, take, drop}
+use Rattle.grammar.specs.Bytes.{Bytes}
+use Rattle.lines.specs.Step.{ListStep}
+use Rattle.lines.specs.Theorems.{line-within, drop-within}
+use Rattle.lines.specs.declared.Listed.{Listed}
+use Rattle.lines.specs.declared.Listed.the-variants.{Line, Drop, End}
+use Rattle.listing.specs.Held.{Held, bytesOf, without, next, ends, Turned}
+use Rattle.listing.specs.declared.window.Window.{Window}
+
+pub line-held : (b : Bytes) {last : Bool} {r : Listed} {a e k n : ℕ} (front back : ℕ) → ListStep (take (back - front) (drop front b)) last r → r ≡ Line a e k n → front ≤ back → front + e ≤ back
+line-held b {last} front back p h o =
+    let q = line-within (subst (λ (r : Listed). ListStep (take (back - front) (drop front b)) last r) h p) in
+    omega (arith, q .1, length-take (back - front) (drop front b))
+
+pub drop-held : (b : Bytes) {last : Bool} {r : Listed} {g : ℕ} (front back : ℕ) → ListStep (take (back - front) (drop front b)) last r → r ≡ Drop g → front ≤ back → front + g ≤ back
+drop-held b {last} front back p h o =
+    let q = drop-within (subst (λ (r : Listed). ListStep (take (back - front) (drop front b)) last r) h p) in
+    omega (arith, q, length-take (back - front) (drop front b))
+
+-- what each case of a step makes of the window
+pub turned-line : (b : Bytes) (w v : Window) (waiting : ℕ) {r : Listed} {a e k n : ℕ} → ListStep (bytesOf w b) (w .last) r → r ≡ Line a e k n → v ≡ without w e → Held w (length b) → Turned b w (record { window = v; waiting = waiting; done = false })
+turned-line b w v waiting {r} {a} {e} {k} {n} p h i o = record {
+  listed = r;
+  step = p;
+  window = i ∙ ap (next w) (sym h);
+  done = ap ends (sym h);
+  held = subst (λ (v : Window). Held v (length b)) (sym i) (record { front = line-held b (w .at) (w .len) p h (o .front); back = o .back });
+}
+
+pub turned-drop : (b : Bytes) (w v : Window) (waiting : ℕ) {r : Listed} {g : ℕ} → ListStep (bytesOf w b) (w .last) r → r ≡ Drop g → v ≡ without w g → Held w (length b) → Turned b w (record { window = v; waiting = waiting; done = false })
+turned-drop b w v waiting {r} {g} p h i o = record {
+  listed = r;
+  step = p;
+  window = i ∙ ap (next w) (sym h);
+  done = ap ends (sym h);
+  held = subst (λ (v : Window). Held v (length b)) (sym i) (record { front = drop-held b (w .at) (w .len) p h (o .front); back = o .back });
+}
+
+pub turned-end : (b : Bytes) (w : Window) (waiting : ℕ) {r : Listed} {a n : ℕ} → ListStep (bytesOf w b) (w .last) r → r ≡ End a n → Held w (length b) → Turned b w (record { window = w; waiting = waiting; done = true })
+turned-end b w waiting {r} p h o = record { listed = r; step = p; window = ap (next w) (sym h); done = ap ends (sym h); held = o }
