@@ -2,7 +2,7 @@
 ghost use mathlib.Core.Path.{_≡_};
 ghost use Rattle.message.specs.Held.{Held};
 ghost use Rattle.message.specs.Kinds.{Told, HeadTold, SizesTold, joinedOf};
-use crate::blank::blank;
+use crate::blanks::blank;
 use crate::fields::id_of;
 use crate::fields::int_of;
 use crate::fields::size_of;

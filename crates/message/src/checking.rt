@@ -1,7 +1,7 @@
 // What a message says.
 ghost use mathlib.Core.Path.{_≡_};
 ghost use Rattle.message.specs.Checked.{unread as unreadSo, judgedTo, Checks};
-use crate::blank::blank;
+use crate::blanks::blank;
 use crate::kinds::Message;
 use crate::says::Said;
 use crate::says::says_of;

@@ -1,5 +1,5 @@
 // What a message says: its kind, whether its attributes are as the table asks, and their values.
-mod blank;
+mod blanks;
 mod board;
 mod checking;
 mod features;
@@ -14,5 +14,6 @@ mod same;
 mod says;
 pub mod values;
 
+pub use blanks::blank;
 pub use checking::Checked;
 pub use checking::check;

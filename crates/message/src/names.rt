@@ -75,3 +75,15 @@ pub const TRANSFER_STATE: [u8; 13] = *b"TransferState";
 pub const TYPE: [u8; 4] = *b"Type";
 
 pub const ID: [u8; 2] = *b"Id";
+
+pub const MALFORMED_MESSAGE: [u8; 17] = *b"malformed message";
+
+pub const MESSAGE_TOO_LONG: [u8; 16] = *b"message too long";
+
+pub const MISSING_ATTRIBUTE: [u8; 17] = *b"missing attribute";
+
+pub const TEXT_TOO_LONG: [u8; 13] = *b"text too long";
+
+pub const BAD_VALUE: [u8; 9] = *b"bad value";
+
+pub const INVALID_TRANSITION: [u8; 18] = *b"invalid transition";

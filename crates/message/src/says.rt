@@ -4,7 +4,7 @@ ghost use Prim.Native.Nat.{_≤_};
 ghost use lib.ListN.{length};
 ghost use Rattle.message.specs.Held.{Held};
 ghost use Rattle.message.specs.Kinds.{Told, ToldWith, Transfers, bareOf, SaysAll};
-use crate::blank::blank;
+use crate::blanks::blank;
 use crate::board::board_available;
 use crate::features::supported;
 use crate::fields::id_of;

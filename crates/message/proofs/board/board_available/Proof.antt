@@ -7,7 +7,7 @@ use Rattle.message.proofs.board.board_available.Statement.{statement}
 use Rattle.message.proofs.board.board_available.Tie as tie
 use Rattle.message.proofs.board.board_available.Reads as reads
 use Rattle.message.proofs.board.board_available.Lts as lts
-use Rattle.message.proofs.blank.blank.Reads as blank-reads
+use Rattle.message.proofs.blanks.blank.Reads as blank-reads
 use Rattle.message.proofs.board.first_rows.Reads as first-rows-reads
 use Rattle.message.proofs.board.joined.Reads as joined-reads
 use Rattle.message.proofs.board.measures.Reads as measures-reads

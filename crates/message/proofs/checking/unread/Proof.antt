@@ -4,7 +4,7 @@ use Rattle.message.proofs.checking.unread.Statement.{statement}
 use Rattle.message.proofs.checking.unread.Tie as tie
 use Rattle.message.proofs.checking.unread.Reads as reads
 use Rattle.message.proofs.checking.unread.Lts as lts
-use Rattle.message.proofs.blank.blank.Reads as blank-reads
+use Rattle.message.proofs.blanks.blank.Reads as blank-reads
 
 blank-requires : tie.Need-blank-requires
 blank-requires c κs = search needs

@@ -6,7 +6,7 @@ use Rattle.message.proofs.says.bare.Statement.{statement}
 use Rattle.message.proofs.says.bare.Tie as tie
 use Rattle.message.proofs.says.bare.Reads as reads
 use Rattle.message.proofs.says.bare.Lts as lts
-use Rattle.message.proofs.blank.blank.Reads as blank-reads
+use Rattle.message.proofs.blanks.blank.Reads as blank-reads
 
 blank-requires : tie.Need-blank-requires
 blank-requires c κs = search needs

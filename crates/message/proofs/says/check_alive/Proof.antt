@@ -7,7 +7,7 @@ use Rattle.message.proofs.says.check_alive.Statement.{statement}
 use Rattle.message.proofs.says.check_alive.Tie as tie
 use Rattle.message.proofs.says.check_alive.Reads as reads
 use Rattle.message.proofs.says.check_alive.Lts as lts
-use Rattle.message.proofs.blank.blank.Reads as blank-reads
+use Rattle.message.proofs.blanks.blank.Reads as blank-reads
 use Rattle.message.proofs.fields.int_of.Reads as int-of-reads
 use Rattle.message.proofs.fields.text_of.Reads as text-of-reads
 use Rattle.message.proofs.first.first.Reads as first-reads

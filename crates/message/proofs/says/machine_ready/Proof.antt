@@ -7,7 +7,7 @@ use Rattle.message.proofs.says.machine_ready.Statement.{statement}
 use Rattle.message.proofs.says.machine_ready.Tie as tie
 use Rattle.message.proofs.says.machine_ready.Reads as reads
 use Rattle.message.proofs.says.machine_ready.Lts as lts
-use Rattle.message.proofs.blank.blank.Reads as blank-reads
+use Rattle.message.proofs.blanks.blank.Reads as blank-reads
 use Rattle.message.proofs.fields.int_of.Reads as int-of-reads
 
 slice-aggregate-int-of : tie.Need-slice-aggregate-int-of

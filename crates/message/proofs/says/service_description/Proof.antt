@@ -7,7 +7,7 @@ use Rattle.message.proofs.says.service_description.Statement.{statement
 use Rattle.message.proofs.says.service_description.Tie as tie
 use Rattle.message.proofs.says.service_description.Reads as reads
 use Rattle.message.proofs.says.service_description.Lts as lts
-use Rattle.message.proofs.blank.blank.Reads as blank-reads
+use Rattle.message.proofs.blanks.blank.Reads as blank-reads
 use Rattle.message.proofs.features.supported.Reads as supported-reads
 use Rattle.message.proofs.fields.int_of.Reads as int-of-reads
 use Rattle.message.proofs.fields.text_of.Reads as text-of-reads

@@ -7,7 +7,7 @@ use Rattle.message.proofs.says.start_transport.Statement.{statement}
 use Rattle.message.proofs.says.start_transport.Tie as tie
 use Rattle.message.proofs.says.start_transport.Reads as reads
 use Rattle.message.proofs.says.start_transport.Lts as lts
-use Rattle.message.proofs.blank.blank.Reads as blank-reads
+use Rattle.message.proofs.blanks.blank.Reads as blank-reads
 use Rattle.message.proofs.fields.id_of.Reads as id-of-reads
 use Rattle.message.proofs.fields.size_of.Reads as size-of-reads
 use Rattle.message.proofs.first.first.Reads as first-reads

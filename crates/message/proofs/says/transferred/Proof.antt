@@ -7,7 +7,7 @@ use Rattle.message.proofs.says.transferred.Statement.{statement}
 use Rattle.message.proofs.says.transferred.Tie as tie
 use Rattle.message.proofs.says.transferred.Reads as reads
 use Rattle.message.proofs.says.transferred.Lts as lts
-use Rattle.message.proofs.blank.blank.Reads as blank-reads
+use Rattle.message.proofs.blanks.blank.Reads as blank-reads
 use Rattle.message.proofs.fields.id_of.Reads as id-of-reads
 use Rattle.message.proofs.fields.int_of.Reads as int-of-reads
 use Rattle.message.proofs.first.first.Reads as first-reads

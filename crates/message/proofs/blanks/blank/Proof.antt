@@ -1,16 +1,16 @@
 use Rattle.message.proofs.MessageLaws.{blank-made}
 use borrow.Author.Needs.{needs}
-use Rattle.message.proofs.blank.blank.Statement.{statement}
-use Rattle.message.proofs.blank.blank.Tie as tie
-use Rattle.message.proofs.blank.blank.Reads as reads
-use Rattle.message.proofs.blank.blank.Lts as lts
-use Rattle.message.proofs.blank.no_alive.Reads as no-alive-reads
-use Rattle.message.proofs.blank.no_board.Reads as no-board-reads
-use Rattle.message.proofs.blank.no_notification.Reads as no-notification-reads
-use Rattle.message.proofs.blank.no_ready.Reads as no-ready-reads
-use Rattle.message.proofs.blank.no_service.Reads as no-service-reads
-use Rattle.message.proofs.blank.no_transfer.Reads as no-transfer-reads
-use Rattle.message.proofs.blank.no_transport.Reads as no-transport-reads
+use Rattle.message.proofs.blanks.blank.Statement.{statement}
+use Rattle.message.proofs.blanks.blank.Tie as tie
+use Rattle.message.proofs.blanks.blank.Reads as reads
+use Rattle.message.proofs.blanks.blank.Lts as lts
+use Rattle.message.proofs.blanks.no_alive.Reads as no-alive-reads
+use Rattle.message.proofs.blanks.no_board.Reads as no-board-reads
+use Rattle.message.proofs.blanks.no_notification.Reads as no-notification-reads
+use Rattle.message.proofs.blanks.no_ready.Reads as no-ready-reads
+use Rattle.message.proofs.blanks.no_service.Reads as no-service-reads
+use Rattle.message.proofs.blanks.no_transfer.Reads as no-transfer-reads
+use Rattle.message.proofs.blanks.no_transport.Reads as no-transport-reads
 
 no-service-requires : tie.Need-no-service-requires
 no-service-requires c κs = search needs
