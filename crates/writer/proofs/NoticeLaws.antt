@@ -68,9 +68,12 @@ notice-meant n =
     let i = le-leb (0 + length d) (length d) (omega arith) in
     rw (whole-text d, g .short, g .is-text, i)
 
+pub notice-sendable : (n : ℕ) → firstIn (meantOf (rowsOf 2) (fieldsOf (noticeMessage n)) (description n)) ≡ 0
+notice-sendable n = ap firstIn (notice-meant n)
+
 pub notice-back : (n : ℕ) → Tells (notice n) 2 (noticeValues n)
 unfolding noticeMessage messageFrom
 notice-back n =
     let e = notice-meant n in
-    let t : Tells (writtenOf (noticeMessage n) (description n)) 2 (meantOf (rowsOf 2) (fieldsOf (noticeMessage n)) (description n)) = message-back 2 (fieldsOf (noticeMessage n)) (description n) (omega arith) (omega arith) (ap firstIn e) in
+    let t : Tells (writtenOf (noticeMessage n) (description n)) 2 (meantOf (rowsOf 2) (fieldsOf (noticeMessage n)) (description n)) = message-back 2 (fieldsOf (noticeMessage n)) (description n) (omega arith) (omega arith) (notice-sendable n) in
     rw (notice-written n, ← e) t

@@ -12,7 +12,7 @@ use Rattle.grammar.specs.Tree.{Tree}
 use Rattle.grammar.specs.Message.{Message as IsMessage}
 use Rattle.message.specs.Table.{Row, table, rowsOf}
 use Rattle.message.specs.Says.{present, anInt, aText, saidOf}
-use Rattle.message.specs.Fields.{Field, serviceFrom, noticeFrom, boardFrom, readyFrom, startFrom, transferFrom, aliveFrom}
+use Rattle.message.specs.Fields.{Field, messageFrom, serviceFrom, noticeFrom, boardFrom, readyFrom, startFrom, transferFrom, aliveFrom}
 use Rattle.message.specs.declared.kinds.Message.{Message}
 use Rattle.writer.specs.Meant.{fieldsOf, meantOf, firstIn, refusalOf}
 use Rattle.writer.specs.Written.{nameOf, writtenOf}
@@ -110,6 +110,11 @@ written-is-message m texts a b h =
 -- the six Notifications are what is written for code 1, severity 1 and the description
 pub notice-written : (n : ℕ) → notice n ≡ writtenOf (noticeMessage n) (description n)
 notice-written n = notices.notice-written n
+
+-- which sending does not refuse
+pub notice-sendable : (n : ℕ) → refusalOf (noticeMessage n) (description n) ≡ 0
+unfolding noticeMessage messageFrom
+notice-sendable n = notices.notice-sendable n
 
 -- T2.W3: and so they read back
 pub notice-reads-back : (n : ℕ)

@@ -1,0 +1,4 @@
+pub mod ReadLaws
+pub mod ReplyLaws
+pub mod AskLaws
+pub mod Theorems

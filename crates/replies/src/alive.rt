@@ -1,0 +1,63 @@
+// The reply to a CheckAlive of Type 1.
+ghost use lib.ListN.{length};
+ghost use mathlib.Core.List.{[]};
+ghost use Rattle.emit.specs.Writes.{Writes};
+ghost use Rattle.replies.specs.Replies.{bareOf, sameOf, Replies};
+use emit::Written;
+use lane::Kind;
+use message::kinds::CheckAlive;
+use message::values::Whole;
+use value::Span;
+use value::Words;
+
+// Without an Id.
+fn reply_bare(out: &mut [u8]) -> Written
+    ensures { λ r. ⌜ Writes bareOf [] (now (out .entry)) (now (out .exit)) r ⌝ }
+{
+    let mut m = message::blank(Kind::CHECK_ALIVE);
+    let alive = CheckAlive {
+        ping: Whole::Present(2),
+        id: Words::Absent,
+    };
+    m.alive = alive;
+    emit::write(m, b"", out)
+}
+
+// With the Id v.
+fn reply_with(v: &[u8], out: &mut [u8]) -> Written
+    ensures { λ r. ⌜ Writes (sameOf (length (now (v .entry)))) (now (v .entry)) (now (out .entry)) (now (out .exit)) r ⌝ }
+{
+    let mut m = message::blank(Kind::CHECK_ALIVE);
+    let whole = Span {
+        start: 0,
+        len: v.len(),
+    };
+    let alive = CheckAlive {
+        ping: Whole::Present(2),
+        id: Words::Present(whole),
+    };
+    m.alive = alive;
+    emit::write(m, v, out)
+}
+
+/// The reply to a CheckAlive, first in the buffer: Type 2 and the same Id, which is the value `id` of the message s. 5 if it reads as more
+/// than 80 bytes, 6 if it is no text of s, 7 if the reply does not fit; then nothing is written.
+pub fn reply(s: &[u8], id: Words, out: &mut [u8]) -> Written
+    ensures { λ r. ⌜ Replies (now (s .entry)) id (now (out .entry)) (now (out .exit)) r ⌝ }
+{
+    let mut scratch = [0u8; 80];
+    let at = value::text_decode(s, id, &mut scratch);
+    let v = value::text_part(s, &scratch, at);
+    match value::refusal_of(at) {
+        0 => reply_with(v, out),
+        4 => reply_bare(out),
+        6 => Written {
+            refusal: 6,
+            count: 0,
+        },
+        _ => Written {
+            refusal: 5,
+            count: 0,
+        },
+    }
+}
