@@ -1,4 +1,4 @@
--- What the promise of `check` determines, and that what is handed out is the one reading's.
+-- What the promises of `check` and `blank` determine, and that what is handed out is the one reading's.
 use mathlib.Core.Path.{_≡_, refl, sym, ap, subst, _∙_}
 use mathlib.Core.List.{List, [], _∷_, _++_}
 use mathlib.Core.Bool.{Bool, true, false, cond}
@@ -58,6 +58,10 @@ check-only {s} {r} {r′} p q =
     let (a, x, y) = answered p in
     let (a′, x′, y′) = answered q in
     same-result s a y (subst (λ (b : PaperAnswer). ResultOf s b r′) (sym (answers-only s a a′ x x′)) y′)
+
+-- no second message satisfies the promise of `blank`
+pub blank-only : (k : ℕ) {r r′ : Message} → r ≡ blank k → r′ ≡ blank k → r ≡ r′
+blank-only k p q = p ∙ sym q
 
 -- at the place of a name stands its raw value
 reads-at : (s : Bytes) (at : ℕ) (l : List Attribute) (after : Bytes) → GoodEach l → drop at s ≡ spellAttributes l ++ after → (n : Bytes) (p : Span) → placeOf at l n ≡ Present p → ReadsAt s n (readAttributes l) p
