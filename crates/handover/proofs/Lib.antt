@@ -1,0 +1,4 @@
+pub mod IdLaws
+pub mod SoundLaws
+pub mod ReceiveLaws
+pub mod SendLaws

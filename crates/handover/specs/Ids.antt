@@ -1,0 +1,14 @@
+-- The BoardId of a message.
+use mathlib.Core.Bool.{_||_, cond}
+use lib.Dec.{eqb}
+use Rattle.lane.specs.Names.{BoardAvailable, StartTransport, StopTransport, TransportFinished}
+use Rattle.lane.specs.Record.{noId}
+use Rattle.grammar.specs.Bytes.{Bytes}
+use Rattle.message.specs.declared.kinds.Message.{Message}
+
+-- the id that a message names; zero bytes where its kind has none
+unfoldable pub boardId : Message → Bytes
+boardId m =
+    cond (eqb (m .kind) BoardAvailable) (m .board .id .bytes)
+    (cond (eqb (m .kind) StartTransport) (m .transport .id .bytes)
+    (cond (eqb (m .kind) StopTransport || eqb (m .kind) TransportFinished) (m .transfer .id .bytes) noId))

@@ -1,0 +1,86 @@
+-- What receiving promises.
+use mathlib.Core.Path.{_≡_}
+use mathlib.Core.List.{[]}
+use mathlib.Core.Bool.{Bool, true, false, _&&_, cond}
+use Prim.Native.Nat.{ℕ, _+_, _≤_}
+use lib.ListN.{length, take, drop}
+use lib.Dec.{eqb, leb}
+use Rattle.lane.specs.Names.{NoOrder, CheckAlive}
+use Rattle.lane.specs.Record.{ended, kept, received}
+use Rattle.lane.specs.declared.Lane.{Lane}
+use Rattle.lane.specs.declared.Moved.{Moved}
+use Rattle.grammar.specs.Bytes.{Bytes}
+use Rattle.value.specs.Text.{Text}
+use Rattle.value.specs.declared.text.Span.{Span}
+use Rattle.value.specs.declared.text.Words.{Words}
+use Rattle.value.specs.declared.text.Words.the-variants.{Present as IsWords}
+use Rattle.message.specs.Checked.{Checks}
+use Rattle.message.specs.Fields.{blank}
+use Rattle.message.specs.declared.checking.Checked.{Checked}
+use Rattle.message.specs.declared.values.Whole.{Whole}
+use Rattle.message.specs.declared.values.Whole.the-variants.{Absent as NoWhole, Present as IsWhole}
+use Rattle.message.specs.declared.kinds.Message.{Message}
+use Rattle.writer.specs.Notices.{notice}
+use Rattle.emit.specs.declared.writing_out.Written.{Written as Count}
+use Rattle.replies.specs.First.{First, firstIn}
+use Rattle.replies.specs.Replies.{Reply}
+use Rattle.handover.specs.Ids.{boardId}
+use Rattle.handover.specs.declared.receiving.Received.{Received}
+
+-- "A received CheckAlive of Type 1 is replied to"
+abbrev pub isPing : Whole → Bool
+isPing NoWhole = false
+isPing (IsWhole n) = eqb n 1
+
+unfoldable pub asksReply : Message → Bool
+asksReply m = eqb (m .kind) CheckAlive && isPing (m .alive .ping)
+
+-- "Attributes are tried in table order, each for 4, 5, 6; the first decides, then 9": what `check` refuses does not reach the chart. 1 keeps the record.
+unfoldable pub movedBy : Lane → ℕ → Message → Moved
+movedBy l n m = cond (eqb n 0) (received l (m .kind) (boardId m)) (cond (eqb n 1) (kept l 1) (ended l n))
+
+-- the bytes b that are to be written where the refusal is n: "Notification" for one that ends the connection, the reply to a CheckAlive of Type 1,
+-- and "Nothing else accepted has a reply."
+pub data Owes (s : Bytes) (m : Message) (n : ℕ) (b : Bytes) : Type 0 where
+  nothing-yet : n ≡ 1 → b ≡ [] → Owes s m n b
+  a-notice : (n ≡ 0 → ⊥) → (n ≡ 1 → ⊥) → b ≡ notice n → Owes s m n b
+  a-reply : n ≡ 0 → asksReply m ≡ true → Reply s (m .alive .id) b → Owes s m n b
+  no-reply : n ≡ 0 → asksReply m ≡ false → b ≡ [] → Owes s m n b
+
+-- "7 .. replaces the answer that would write them": record and buffer are kept, and no byte is used
+abbrev pub noRoom : Lane → Received
+noRoom l = record { refusal = 7; lane = l; order = NoOrder; used = 0; written = 0; place = 0; message = blank 0 }
+
+-- what is told of a checked input that moved the lane; "Bytes used" is `check`'s end, which is 0 where no message ends
+unfoldable pub told : Checked → Moved → ℕ → Received
+told c v n = record {
+  refusal = v .refusal;
+  lane = v .lane;
+  order = v .order;
+  used = c .end;
+  written = n;
+  place = c .place;
+  message = cond (eqb (v .refusal) 0) (c .message) (blank 0);
+}
+
+-- "7 is given exactly if the bytes to be written, a Notification too, are more than the buffer holds"
+unfoldable pub answerOf : Lane → Checked → Bytes → ℕ → Received
+answerOf l c b room = cond (leb (length b) room) (told c (movedBy l (c .refusal) (c .message)) (length b)) (noRoom l)
+
+-- a lane l, an input s, a buffer that holds `old` before and `new` after: r is answered
+pub record Receives (l : Lane) (s old new : Bytes) (r : Received) : Type 0 where
+  pub checked : Checked
+  pub checks : Checks s checked
+  pub due : Bytes
+  pub owes : Owes s (checked .message) (movedBy l (checked .refusal) (checked .message) .refusal) due
+  pub answer : r ≡ answerOf l checked due (length old)
+  pub buffer : new ≡ firstIn due old
+
+-- For proofs of inner functions: an Id that `check` let pass, and what is written back.
+abbrev pub Sound : Bytes → Words → Type 0
+Sound s w = (p : Span) → w ≡ IsWords p → (v : Bytes) × Text (take (p .len) (drop (p .start) s)) v × (p .start + p .len ≤ length s) × (length v ≤ 80)
+
+pub record Written (s : Bytes) (m : Message) (n : ℕ) (old new : Bytes) (w : Count) : Type 0 where
+  pub due : Bytes
+  pub owes : Owes s m n due
+  pub first : First due old new w

@@ -1,0 +1,11 @@
+// The public calls of a lane: a message is received or sent, and the record, the belt order and the buffer follow.
+mod ids;
+mod receiving;
+mod sending;
+
+pub use ids::board_id;
+pub use lane::Lane;
+pub use receiving::Received;
+pub use receiving::receive;
+pub use sending::Sent;
+pub use sending::send;

@@ -1,0 +1,61 @@
+// Sending: whether a message may be sent, what it does to the lane, and its bytes.
+ghost use mathlib.Core.Path.{_≡_};
+ghost use Rattle.handover.specs.Sending.{kept as keptBy, mayNot, Sends};
+use crate::ids::board_id;
+use lane::Lane;
+use lane::Order;
+use lane::Refusal;
+use message::kinds::Message;
+
+/// What sending answers: the refusal; the lane after it and the belt order; and how many bytes of the buffer are written.
+pub struct Sent {
+    pub refusal: u8,
+    pub lane: Lane,
+    pub order: u8,
+    pub written: usize,
+}
+
+// A refusal keeps the lane.
+fn kept(lane: Lane, refusal: u8) -> Sent
+    ensures { λ r. ⌜ r ≡ keptBy lane refusal ⌝ }
+{
+    Sent {
+        refusal,
+        lane,
+        order: Order::NONE,
+        written: 0,
+    }
+}
+
+// The refusal of a message without a transition: 4, 5, 6 decide before 8.
+fn may_not(m: Message, texts: &[u8]) -> u8
+    ensures { λ r. ⌜ r ≡ mayNot m (now (texts .entry)) ⌝ }
+{
+    let r = writer::refusal_of(m, texts);
+    if r != 0 {
+        return r;
+    }
+    Refusal::MAY_NOT_BE_SENT
+}
+
+/// Sends a message, whose texts are parts of `texts`: it stands first in the buffer, and the lane is moved. Every refusal keeps both.
+pub fn send(lane: Lane, m: Message, texts: &[u8], out: &mut [u8]) -> Sent
+    ensures { λ r. ⌜ Sends lane m (now (texts .entry)) (now (out .entry)) (now (out .exit)) r ⌝ }
+{
+    let kind = m.kind;
+    let moved = lane.sent(kind, board_id(m));
+    if moved.refusal != 0 {
+        return kept(lane, may_not(m, texts));
+    }
+    let w = emit::write(m, texts, out);
+    if w.refusal != 0 {
+        return kept(lane, w.refusal);
+    }
+    let next = moved.lane;
+    Sent {
+        refusal: 0,
+        lane: next,
+        order: moved.order,
+        written: w.count,
+    }
+}
