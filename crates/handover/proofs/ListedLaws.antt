@@ -1,0 +1,163 @@
+-- Which refusals the attribute table gives: 0, 4, 5 or 6, in reading and in sending.
+use mathlib.Core.Path.{_≡_, refl, sym, ap, _∙_}
+use mathlib.Core.List.{List, [], _∷_}
+use mathlib.Core.Bool.{Bool, true, false, _&&_, not, cond}
+use Prim.Native.Nat.{ℕ, zero, suc}
+use lib.ListN.{length}
+use lib.Dec.{leb}
+use Rattle.grammar.specs.Bytes.{Bytes, some, same, within}
+use Rattle.grammar.specs.Tree.{Pair, Tree, tree, Forest, no-trees, tree-then}
+use Rattle.number.specs.Whole.{Whole as Int, noInt, int, intOf}
+use Rattle.number.specs.Positive.{Number, noNumber, number, numberOf}
+use Rattle.number.specs.Guid.{guidOf}
+use Rattle.number.specs.Version.{versionOf}
+use Rattle.lane.specs.Chart.{among}
+use Rattle.value.specs.declared.text.Span.{Span}
+use Rattle.value.specs.declared.text.Words.the-variants.{Absent as NoWords, Present as IsWords}
+use Rattle.message.specs.Table.{Row, Form, words, someWords, whole, guid, version, positive, features}
+use Rattle.message.specs.Says.{Value, Result, present, absent, refused, aText, anInt, anId, millionths, noted, notes, when, limited, without, ranged, measured, judged, given, nameOf, childrenOf, featured, tried, refusalIn, first, refusalOf}
+use Rattle.message.specs.Fields.{Field, none, aWords, aWhole, aMeasure, aGuid, aFeatures}
+use Rattle.message.specs.declared.values.Whole.the-variants.{Absent as NoWhole, Present as IsWhole}
+use Rattle.message.specs.declared.values.Measure.the-variants.{Absent as NoMeasure, Present as IsMeasure}
+use Rattle.message.specs.declared.values.Features.{Features}
+use Rattle.writer.specs.Meant.{sendable, textAt, textMeant, wholeMeant, measureMeant, idMeant, featuresMeant, meantBy, meantOf, firstIn, MOST}
+
+-- "4, 5, 6", and 0
+abbrev pub Listed : ℕ → Type 0
+Listed n = among n (0 ∷ 4 ∷ 5 ∷ 6 ∷ []) ≡ true
+
+record Fine (x : Result) : Type 0 where
+  listed : Listed (refusalIn x)
+
+when-fine : (b : Bool) (v : Value) → Fine (when b v)
+when-fine true v = record { listed = refl }
+when-fine false v = record { listed = refl }
+
+either-fine : (b : Bool) {x y : Result} → Fine x → Fine y → Fine (cond b x y)
+either-fine true p q = p
+either-fine false p q = q
+
+without-fine : (b : Bool) → Fine (without b)
+without-fine true = record { listed = refl }
+without-fine false = record { listed = refl }
+
+long-fine : Fine (refused 5)
+long-fine = record { listed = refl }
+
+bad-fine : Fine (refused 6)
+bad-fine = record { listed = refl }
+
+present-fine : (v : Value) → Fine (present v)
+present-fine v = record { listed = refl }
+
+ranged-fine : (lo hi : ℕ) (i : Int) → Fine (ranged lo hi i)
+ranged-fine lo hi noInt = bad-fine
+ranged-fine lo hi (int minus n) = when-fine (not minus && within lo hi n) (anInt n)
+
+measured-fine : (n : Number) → Fine (measured n)
+measured-fine noNumber = bad-fine
+measured-fine (number n) = present-fine (millionths n)
+
+judged-fine : (t : Form) (v : Bytes) → Fine (judged t v)
+unfolding judged
+judged-fine (words n) v = either-fine (leb (length v) n) (present-fine (aText v)) long-fine
+judged-fine (someWords n) v = either-fine (leb (length v) n) (when-fine (some v) (aText v)) long-fine
+judged-fine (whole lo hi) v = ranged-fine lo hi (intOf v)
+judged-fine guid v = when-fine (guidOf v) (anId v)
+judged-fine version v = when-fine (versionOf v) (aText v)
+judged-fine positive v = measured-fine (numberOf v)
+judged-fine features v = bad-fine
+
+given-fine : (t : Form) (o : Bool) (n : Bytes) (l : List Pair) → Fine (given t o n l)
+given-fine t o n [] = without-fine o
+given-fine t o n (p ∷ l) = either-fine (same n (p .name)) (judged-fine t (p .value)) (given-fine t o n l)
+
+featured-fine : (n : Bytes) (o : Bool) (f : Forest) → Fine (featured n o f)
+featured-fine n o no-trees = without-fine o
+featured-fine n o (tree-then t f) = either-fine (same n (nameOf t)) (present-fine (notes (childrenOf t))) (featured-fine n o f)
+
+tried-fine : (r : Row) (t : Tree) → Fine (tried r t)
+unfolding tried
+tried-fine r (tree n a f) = go (r .form) refl
+  where
+    go : (t : Form) → r .form ≡ t → Fine (tried r (tree n a f))
+    go (words k) e = rw e (given-fine (words k) (r .optional) (r .name) a)
+    go (someWords k) e = rw e (given-fine (someWords k) (r .optional) (r .name) a)
+    go (whole lo hi) e = rw e (given-fine (whole lo hi) (r .optional) (r .name) a)
+    go guid e = rw e (given-fine guid (r .optional) (r .name) a)
+    go version e = rw e (given-fine version (r .optional) (r .name) a)
+    go positive e = rw e (given-fine positive (r .optional) (r .name) a)
+    go features e = rw e (featured-fine (r .name) (r .optional) f)
+
+first-listed : (a b : ℕ) → Listed a → Listed b → Listed (first a b)
+first-listed zero b p q = q
+first-listed (suc a) b p q = p
+
+pub table-listed : (rows : List Row) (t : Tree) → Listed (refusalOf rows t)
+unfolding refusalOf
+table-listed [] t = refl
+table-listed (r ∷ l) t = first-listed (refusalIn (tried r t)) (refusalOf l t) (tried-fine r t .listed) (table-listed l t)
+
+-- in sending
+text-fine : (t : Form) (texts : Bytes) (p : Span) → Fine (textMeant t texts p)
+text-fine (words n) texts p = either-fine (leb (p .len) n) (when-fine (sendable texts p) (aText (textAt texts p))) long-fine
+text-fine (someWords n) texts p = either-fine (leb (p .len) n) (when-fine (sendable texts p && some (textAt texts p)) (aText (textAt texts p))) long-fine
+text-fine (whole lo hi) texts p = bad-fine
+text-fine guid texts p = bad-fine
+text-fine version texts p = when-fine (sendable texts p && versionOf (textAt texts p)) (aText (textAt texts p))
+text-fine positive texts p = bad-fine
+text-fine features texts p = bad-fine
+
+whole-fine : (t : Form) (k : ℕ) → Fine (wholeMeant t k)
+whole-fine (words n) k = bad-fine
+whole-fine (someWords n) k = bad-fine
+whole-fine (whole lo hi) k = when-fine (within lo hi k) (anInt k)
+whole-fine guid k = bad-fine
+whole-fine version k = bad-fine
+whole-fine positive k = bad-fine
+whole-fine features k = bad-fine
+
+measure-fine : (t : Form) (x : ℕ) → Fine (measureMeant t x)
+measure-fine (words n) x = bad-fine
+measure-fine (someWords n) x = bad-fine
+measure-fine (whole lo hi) x = bad-fine
+measure-fine guid x = bad-fine
+measure-fine version x = bad-fine
+measure-fine positive x = when-fine (within 1 MOST x) (millionths x)
+measure-fine features x = bad-fine
+
+id-fine : (t : Form) (v : Bytes) → Fine (idMeant t v)
+id-fine (words n) v = bad-fine
+id-fine (someWords n) v = bad-fine
+id-fine (whole lo hi) v = bad-fine
+id-fine guid v = when-fine (guidOf v) (anId v)
+id-fine version v = bad-fine
+id-fine positive v = bad-fine
+id-fine features v = bad-fine
+
+features-fine : (t : Form) (f : Features) → Fine (featuresMeant t f)
+features-fine (words n) f = bad-fine
+features-fine (someWords n) f = bad-fine
+features-fine (whole lo hi) f = bad-fine
+features-fine guid f = bad-fine
+features-fine version f = bad-fine
+features-fine positive f = bad-fine
+features-fine features f = present-fine (noted (f .forecast) (f .query) (f .send))
+
+meant-fine : (r : Row) (x : Field) (texts : Bytes) → Fine (meantBy r x texts)
+unfolding meantBy
+meant-fine r none texts = bad-fine
+meant-fine r (aWords NoWords) texts = without-fine (r .optional)
+meant-fine r (aWords (IsWords p)) texts = text-fine (r .form) texts p
+meant-fine r (aWhole NoWhole) texts = without-fine (r .optional)
+meant-fine r (aWhole (IsWhole k)) texts = whole-fine (r .form) k
+meant-fine r (aMeasure NoMeasure) texts = without-fine (r .optional)
+meant-fine r (aMeasure (IsMeasure x)) texts = measure-fine (r .form) x
+meant-fine r (aGuid g) texts = either-fine (g .there) (id-fine (r .form) (g .bytes)) (without-fine (r .optional))
+meant-fine r (aFeatures f) texts = either-fine (f .there) (features-fine (r .form) f) (without-fine (r .optional))
+
+pub meant-listed : (rows : List Row) (l : List Field) (texts : Bytes) → Listed (firstIn (meantOf rows l texts))
+unfolding meantOf
+meant-listed [] l texts = refl
+meant-listed (r ∷ k) [] texts = refl
+meant-listed (r ∷ k) (x ∷ l) texts = first-listed (refusalIn (meantBy r x texts)) (firstIn (meantOf k l texts)) (meant-fine r x texts .listed) (meant-listed k l texts)
