@@ -4,3 +4,7 @@ pub mod ReceiveLaws
 pub mod SendLaws
 pub mod ListedLaws
 pub mod Theorems
+pub mod Orders
+pub mod StepForStep
+pub mod SentReceived
+pub mod BenchCalls

@@ -76,7 +76,7 @@ pub send-only : {l : Lane} {m : Message} {texts old new new′ : Bytes} {r r′ 
 send-only p q = (p .answer ∙ sym (q .answer), p .buffer ∙ sym (q .buffer))
 
 -- what `check` refuses is one of 0 to 6
-abbrev Low : ℕ → Type 0
+abbrev pub Low : ℕ → Type 0
 Low n = among n (0 ∷ 1 ∷ 2 ∷ 3 ∷ 4 ∷ 5 ∷ 6 ∷ []) ≡ true
 
 -- one of a list is one of a longer one
@@ -98,24 +98,24 @@ low-listed n e = go (eqb n 0) refl (eqb n 4) refl (eqb n 5) refl (eqb n 6) refl
     go false ea false eb false ec true ed = rw (eqb-true n 6 ed) refl
     go false ea false eb false ec false ed = clash (sym e ∙ rw (ea, eb, ec, ed) refl)
 
-checked-low : {s : Bytes} {c : Checked} → Checks s c → Low (c .refusal)
+pub checked-low : {s : Bytes} {c : Checked} → Checks s c → Low (c .refusal)
 checked-low (ends start end p l w e) = subst (λ (c : Checked). Low (c .refusal)) (sym e) (low-listed (saidOf (readLayout l) .refusal) (table-listed (rowsOf (saidOf (readLayout l) .kind)) (childOf (readLayout l))))
 checked-low (more start p e) = subst (λ (c : Checked). Low (c .refusal)) (sym e) refl
 checked-low (malformed start place p e) = subst (λ (c : Checked). Low (c .refusal)) (sym e) refl
 checked-low (too-long start p e) = subst (λ (c : Checked). Low (c .refusal)) (sym e) refl
 
 -- what the lane is moved by: 0 to 6, or 9
-abbrev Moves : ℕ → Type 0
+abbrev pub Moves : ℕ → Type 0
 Moves n = among n (0 ∷ 1 ∷ 2 ∷ 3 ∷ 4 ∷ 5 ∷ 6 ∷ 9 ∷ []) ≡ true
 
-received-refusal : (l : Lane) (k : ℕ) (id : Bytes) → (received l k id .refusal ≡ 0) ⊎ (received l k id ≡ ended l 9)
+pub received-refusal : (l : Lane) (k : ℕ) (id : Bytes) → (received l k id .refusal ≡ 0) ⊎ (received l k id ≡ ended l 9)
 received-refusal l k id = go (next (l .state) k (other (l .side)) IsReceived (carriesOwn l k id)) refl
   where
     go : (st : Step) → next (l .state) k (other (l .side)) IsReceived (carriesOwn l k id) ≡ st → (received l k id .refusal ≡ 0) ⊎ (received l k id ≡ ended l 9)
     go (To n) e = inl (ap (λ (v : Moved). v .refusal) (received-by l k id (To n) e))
     go NoTransition e = inr (received-by l k id NoTransition e)
 
-low-moves : (n : ℕ) → Low n → Moves n
+pub low-moves : (n : ℕ) → Low n → Moves n
 low-moves n e = among-more n (0 ∷ 1 ∷ 2 ∷ 3 ∷ 4 ∷ 5 ∷ 6 ∷ []) (9 ∷ []) e
 
 moved-listed : (l : Lane) (n : ℕ) (m : Message) → Low n → Moves (movedBy l n m .refusal)
@@ -129,7 +129,7 @@ abbrev Any : ℕ → Type 0
 Any n = among n (0 ∷ 1 ∷ 2 ∷ 3 ∷ 4 ∷ 5 ∷ 6 ∷ 7 ∷ 9 ∷ []) ≡ true
 
 -- by the number: a fact of each number that moves is a fact of all
-each-move : (P : ℕ → Type 0) → P 0 → P 1 → P 2 → P 3 → P 4 → P 5 → P 6 → P 9 → (n : ℕ) → Moves n → P n
+pub each-move : (P : ℕ → Type 0) → P 0 → P 1 → P 2 → P 3 → P 4 → P 5 → P 6 → P 9 → (n : ℕ) → Moves n → P n
 each-move P p0 p1 p2 p3 p4 p5 p6 p9 n e = go (eqb n 0) refl (eqb n 1) refl (eqb n 2) refl (eqb n 3) refl (eqb n 4) refl (eqb n 5) refl (eqb n 6) refl (eqb n 9) refl
   where
     at : (k : ℕ) → eqb n k ≡ true → P k → P n
@@ -170,7 +170,7 @@ notice-long n =
     (λ e. rw e (cases (eqb n 9) (λ h. rw h (omega arith))
     (λ f. rw f (omega arith))))))))))))
 
-owes-long : {s b : Bytes} {m : Message} {n : ℕ} → Owes s m n b → length b ≤ 525
+pub owes-long : {s b : Bytes} {m : Message} {n : ℕ} → Owes s m n b → length b ≤ 525
 owes-long (nothing-yet e f) = let x = ap length f in omega arith
 owes-long {n = n} (a-notice y z f) = let x = ap length f in let y = notice-long n in omega arith
 owes-long (a-reply z a r) = reply-long r
@@ -180,7 +180,7 @@ nothing-first : (old : Bytes) → firstIn [] old ≡ old
 nothing-first old = rw (le-leb 0 (length old) (omega arith)) refl
 
 -- 1 is `check`'s
-moved-one : (l : Lane) (n : ℕ) (m : Message) → n ≡ 1 → movedBy l n m ≡ keptMoved l 1
+pub moved-one : (l : Lane) (n : ℕ) (m : Message) → n ≡ 1 → movedBy l n m ≡ keptMoved l 1
 unfolding movedBy
 moved-one l n m e = rw e refl
 
@@ -211,7 +211,7 @@ moved-ids-zero l n m h =
 
 -- T1.1: receiving answers 0 to 7, or 9
 module _ {l : Lane} {s old new : Bytes} {r : Received} (p : Receives l s old new r) where
-  abbrev moved : Moved
+  abbrev pub moved : Moved
   moved = movedBy l (p .checked .refusal) (p .checked .message)
 
   moves : Moves (moved .refusal)
@@ -226,26 +226,26 @@ module _ {l : Lane} {s old new : Bytes} {r : Received} (p : Receives l s old new
   unfolding answerOf
   fits-not h = p .answer ∙ rw (lt-leb (length (p .due)) (length old) h) refl
 
-  room : (length (p .due) ≤ length old) ⊎ (length old < length (p .due))
+  pub room : (length (p .due) ≤ length old) ⊎ (length old < length (p .due))
   room = cases (leb (length (p .due)) (length old)) (λ e. inl (leb-true (length (p .due)) (length old) e)) (λ e. inr (leb-false (length (p .due)) (length old) e))
 
-  told-refusal : length (p .due) ≤ length old → r .refusal ≡ moved .refusal
+  pub told-refusal : length (p .due) ≤ length old → r .refusal ≡ moved .refusal
   unfolding told
   told-refusal h = ap (λ (r : Received). r .refusal) (fits h)
 
-  told-written : length (p .due) ≤ length old → r .written ≡ length (p .due)
+  pub told-written : length (p .due) ≤ length old → r .written ≡ length (p .due)
   unfolding told
   told-written h = ap (λ (r : Received). r .written) (fits h)
 
-  told-lane : length (p .due) ≤ length old → r .lane ≡ moved .lane
+  pub told-lane : length (p .due) ≤ length old → r .lane ≡ moved .lane
   unfolding told
   told-lane h = ap (λ (r : Received). r .lane) (fits h)
 
-  told-order : length (p .due) ≤ length old → r .order ≡ moved .order
+  pub told-order : length (p .due) ≤ length old → r .order ≡ moved .order
   unfolding told
   told-order h = ap (λ (r : Received). r .order) (fits h)
 
-  told-used : length (p .due) ≤ length old → r .used ≡ p .checked .end
+  pub told-used : length (p .due) ≤ length old → r .used ≡ p .checked .end
   unfolding told
   told-used h = ap (λ (r : Received). r .used) (fits h)
 
@@ -320,7 +320,7 @@ moved-zero l n m e =
     cases (eqb n 0) (λ f. eqb-true n 0 f)
     (λ f. cases (eqb n 1) (λ g. absurd (let x : 1 ≡ 0 = rw (f, g) at e in omega arith)) (λ g. rw (f, g) at e))
 
-moved-on : (l : Lane) (n : ℕ) (m : Message) → n ≡ 0 → movedBy l n m ≡ received l (m .kind) (boardId m)
+pub moved-on : (l : Lane) (n : ℕ) (m : Message) → n ≡ 0 → movedBy l n m ≡ received l (m .kind) (boardId m)
 unfolding movedBy
 moved-on l n m e = rw e refl
 

@@ -1,3 +1,5 @@
 pub mod Ids
 pub mod Receiving
 pub mod Sending
+pub mod Runs
+pub mod Bench
