@@ -1,4 +1,6 @@
 // The library's calls for C: numbers and byte slices only. A slice is a pointer and then its length.
+mod texts;
+
 ghost use mathlib.Core.Path.{_≡_};
 ghost use Rattle.hermes_c.specs.Numbers.{Told};
 ghost use Rattle.hermes_c.specs.Findings.{millionthsOf, intOf, Finds};
