@@ -1,0 +1,107 @@
+// What document 01's table says of a message, judged on the tree that a peer read: refusal, kind, and the two values that the check hands to C.
+#pragma once
+#include <cstdint>
+#include <map>
+#include <regex>
+#include <string>
+#include <vector>
+
+#include "make.hpp"
+#include "peers.hpp"
+
+struct Verdict {
+    unsigned refusal = 0;
+    uint64_t kind = 0, length = 0, failed = 0;
+    bool operator==(const Verdict &o) const { return refusal == o.refusal && kind == o.kind && length == o.length && failed == o.failed; }
+};
+
+// The root's child: its name, its attributes, and whether one of its children is SupportedFeatures.
+struct Child {
+    std::string name;
+    std::map<std::string, std::string> values;
+    bool features = false;
+};
+
+inline Child child_of(const Tree &t) {
+    Child c;
+    unsigned open = 0;
+    std::string name;
+    for (size_t at = 0; at < t.size(); at = t.find('\0', at) + 1) {
+        std::string rest = t.c_str() + at + 1;
+        switch (t[at]) {
+            case '<':
+                if (++open == 2) c.name = rest;
+                if (open == 3 && rest == "SupportedFeatures") c.features = true;
+                break;
+            case '/': open--; break;
+            case ' ': name = rest; break;
+            default:
+                if (open == 2) c.values[name] = rest;
+        }
+    }
+    return c;
+}
+
+inline std::string without_zeros(const std::string &digits) {
+    size_t n = digits.find_first_not_of('0');
+    return n == std::string::npos ? "" : digits.substr(n);
+}
+
+// "Int: optional sign, one or more digits."
+inline bool int_in(const std::string &v, unsigned low, unsigned high, uint64_t &out) {
+    static const std::regex form("[ \t\r\n]*([+-]?)([0-9]+)[ \t\r\n]*");
+    std::smatch m;
+    if (!std::regex_match(v, m, form)) return false;
+    std::string digits = without_zeros(m[2]);
+    if (digits.size() > 5 || (m[1] == "-" && !digits.empty())) return false;
+    out = digits.empty() ? 0 : std::stoul(digits);
+    return out >= low && out <= high;
+}
+
+// "Positive number: optional `+`, digits with at most one point, at least one digit. .." Its value is in millionths.
+inline bool positive(const std::string &v, uint64_t &out) {
+    static const std::regex form("[ \t\r\n]*\\+?([0-9]*)(?:\\.([0-9]*))?[ \t\r\n]*");
+    std::smatch m;
+    if (!std::regex_match(v, m, form) || m.length(1) + m.length(2) == 0) return false;
+    std::string whole = without_zeros(m[1]), part = m[2];
+    while (!part.empty() && part.back() == '0') part.pop_back();
+    if (whole.size() > 7 || part.size() > 6) return false;
+    part.resize(6, '0');
+    out = std::stoull("0" + whole) * 1000000 + std::stoull(part);
+    return out > 0;
+}
+
+// The refusal of one value: 0, 5 or 6.
+inline unsigned judged(const Column &c, const std::string &v, uint64_t &out) {
+    static const std::regex guid("[0-9a-f]{8}-[0-9a-f]{4}-[0-9a-f]{4}-[0-9a-f]{4}-[0-9a-f]{12}"), version("[0-9]{1,3}\\.[0-9]{1,3}");
+    switch (c.type) {
+        case 't': return v.size() > c.high ? 5 : 0;
+        case 'n': return v.size() > c.high ? 5 : v.empty() ? 6 : 0;
+        case 'i': return int_in(v, c.low, c.high, out) ? 0 : 6;
+        case 'p': return positive(v, out) ? 0 : 6;
+        case 'g': return std::regex_match(v, guid) ? 0 : 6;
+        default: return std::regex_match(v, version) ? 0 : 6;
+    }
+}
+
+// "Attributes are tried in table order, each for 4, 5, 6; the first decides". SupportedFeatures is the last item of its row.
+inline Verdict verdict(const Tree &t) {
+    Child c = child_of(t);
+    Verdict none;
+    while (none.kind < table().size() && table()[none.kind].name != c.name) none.kind++;
+    if (none.kind == table().size()) return Verdict();
+    const Row &row = table()[none.kind++];
+    Verdict v = none;
+    auto refused = [&](unsigned n) { return none.refusal = n, none; };
+    for (const Column &column : row.columns) {
+        auto found = c.values.find(column.name);
+        if (found == c.values.end() && column.may_miss) continue;
+        if (found == c.values.end()) return refused(4);
+        uint64_t value = 0;
+        unsigned n = judged(column, found->second, value);
+        if (n) return refused(n);
+        if (v.kind == 3 && found->first == "Length") v.length = value;
+        if (v.kind == 3 && found->first == "FailedBoard") v.failed = value;
+    }
+    return v.kind == 1 && !c.features ? refused(4) : v;
+}
