@@ -1,0 +1,168 @@
+// Fuzzes the calls for C with libFuzzer: no byte outside what is lent is touched, and each answer keeps to its numbers.
+// The library carries no address checks of its own. So what a call is lent lies against a page that nobody may touch, once against the page
+// behind it and once against the page before it: one byte too far is a crash. Bytes on the free side are compared afterwards.
+// The last bytes of an input are dials: which span is asked for, how long the scratch is, how far the message is stretched.
+#include <sys/mman.h>
+#include <unistd.h>
+
+#include <algorithm>
+#include <cstdint>
+#include <cstdio>
+#include <cstdlib>
+#include <cstring>
+#include <string>
+
+extern "C" {
+uint8_t tryphomel_read(const uint8_t *bytes, size_t length, uint64_t *start, uint64_t *place);
+uint8_t tryphomel_check(const uint8_t *bytes, size_t length, uint64_t *end, uint64_t *kind, uint64_t *long_side, uint64_t *failed);
+uint8_t tryphomel_text(const uint8_t *bytes, size_t length, uint8_t there, uint64_t start, uint64_t count, uint8_t *scratch, size_t room,
+                       uint64_t *place, uint64_t *at, uint64_t *size);
+}
+
+namespace {
+
+const size_t LIMIT = 65536;
+
+void expect(bool good, const char *what) {
+    if (good) return;
+    fprintf(stderr, "does not hold: %s\n", what);
+    abort();
+}
+
+// Memory between two pages that nobody may touch. What is not lent is filled, and looked at again.
+class Fence {
+   public:
+    Fence() : page((size_t)sysconf(_SC_PAGESIZE)), size(1 << 18) {
+        void *all = mmap(nullptr, size + 2 * page, PROT_NONE, MAP_PRIVATE | MAP_ANONYMOUS, -1, 0);
+        expect(all != MAP_FAILED, "there is memory");
+        base = (uint8_t *)all + page;
+        expect(mprotect(base, size, PROT_READ | PROT_WRITE) == 0, "memory can be used");
+    }
+
+    // Room for n bytes, against the page behind them or the page before them.
+    uint8_t *lend(size_t n, bool high) {
+        lent = high ? base + size - n : base;
+        count = n;
+        memset(side(), FILL, SIDE);
+        return lent;
+    }
+
+    bool side_kept() { return std::all_of(side(), side() + SIDE, [](uint8_t b) { return b == FILL; }); }
+
+   private:
+    static const size_t SIDE = 256;
+    static const uint8_t FILL = 0xa5;
+    size_t page, size, count = 0;
+    uint8_t *base = nullptr, *lent = nullptr;
+    uint8_t *side() { return lent == base ? lent + count : lent - SIDE; }
+};
+
+// What the last bytes of an input choose.
+struct Dials {
+    uint8_t there, stretch, flags;
+    uint64_t start, length;
+    size_t room;
+};
+
+Dials take_dials(const uint8_t *data, size_t &size) {
+    uint8_t d[12] = {0};
+    size_t n = std::min(size, sizeof d);
+    size -= n;
+    memcpy(d, data + size, n);
+    Dials x{d[0], d[1], d[2], (uint64_t)(d[3] | d[4] << 8), (uint64_t)(d[5] | d[6] << 8), (size_t)(d[7] | d[8] << 8)};
+    if (x.flags & 1) x.start = UINT64_MAX - x.start;
+    if (x.flags & 2) x.length = UINT64_MAX - x.length;
+    if (x.flags & 4) x.room %= 8;
+    if ((x.flags & 8) && size) x.start %= size + 2, x.length %= size + 2;
+    return x;
+}
+
+// The input, sometimes stretched by glue to sizes around the limit.
+std::string stretched(const uint8_t *data, size_t size, const Dials &d) {
+    std::string s((const char *)data, size);
+    size_t at = s.find('>');
+    if (d.stretch % 16 == 1 && at != std::string::npos && size < LIMIT) s.insert(at + 1, LIMIT - 4 - size + d.stretch / 16, ' ');
+    return s;
+}
+
+struct Read {
+    unsigned answer;
+    uint64_t start, place;
+};
+
+Read on_read(const uint8_t *bytes, size_t n) {
+    Read r{9, UINT64_MAX, UINT64_MAX};
+    r.answer = tryphomel_read(bytes, n, &r.start, &r.place);
+    expect(r.answer <= 3 && r.start <= n, "an answer, and a start in the input");
+    expect(r.answer != 0 || (r.start < r.place && r.place <= n && r.place - r.start <= LIMIT), "0: an end in the input, within the limit");
+    expect(r.answer != 1 || (r.place == 0 && n - r.start < LIMIT), "1: below the limit");
+    expect(r.answer != 2 || (r.start <= r.place && r.place < n && r.place - r.start < LIMIT), "2: a place in the input, within the limit");
+    expect(r.answer != 3 || (r.place == 0 && n - r.start >= LIMIT), "3: at the limit");
+    return r;
+}
+
+void on_check(const uint8_t *bytes, size_t n, const Read &r) {
+    uint64_t end = 9, kind = 99, length = 9, failed = 9;
+    unsigned refusal = tryphomel_check(bytes, n, &end, &kind, &length, &failed);
+    bool fits = r.answer ? refusal == r.answer && end == 0 && kind == 0 : end == r.place && kind <= 10;
+    expect(fits, "the check says what the reader says");
+    expect(r.answer || refusal == 0 || refusal == 4 || refusal == 5 || refusal == 6, "a refusal of a message");
+    expect((refusal == 0 && kind == 3) || (length == 0 && failed == 0), "values of an accepted BoardAvailable alone");
+    expect(length <= 9999999999999 && failed <= 2, "values in their ranges");
+}
+
+// Asks for the text at a span, with a scratch against a fence.
+void on_text(const uint8_t *bytes, size_t n, const Dials &d, uint64_t start, uint64_t length, bool high) {
+    static Fence fence;
+    uint64_t place = 9, at = 9, count = 9;
+    uint8_t *scratch = fence.lend(d.room, high);
+    memset(scratch, 0x5a, d.room);
+    unsigned refusal = tryphomel_text(bytes, n, d.there, start, length, scratch, d.room, &place, &at, &count);
+    bool inside = start <= n && length <= n - start;
+    size_t written = refusal == 0 && place == 2 ? count : 0;
+    expect(fence.side_kept(), "nothing beside the scratch is changed");
+    expect(written <= d.room, "the text is in the scratch");
+    expect(std::all_of(scratch + written, scratch + d.room, [](uint8_t b) { return b == 0x5a; }), "the rest of the scratch is kept");
+    expect(d.there ? refusal == 0 || refusal == 6 || refusal == 7 : refusal == 4, "a refusal of a text");
+    expect(inside || refusal == 6 || !d.there, "outside is 6");
+    if (refusal != 0) return expect(place == 0 && at == 0 && count == 0, "no text, no numbers");
+    if (place == 1) return expect(at == start && count == length, "a text in the message is where it was asked for");
+    expect(place == 2 && at == 0 && count <= length, "a decoded text is no longer");
+}
+
+// Asks for the first raw values of an accepted message too, so that what must be decoded is met often.
+void on_values(const uint8_t *bytes, size_t n, const Dials &d, const Read &r, bool high) {
+    const uint8_t *end = bytes + r.place, *q = bytes + r.start;
+    for (unsigned i = 0; i < 6; i++) {
+        q = std::find_if(q, end, [](uint8_t b) { return b == '"' || b == '\''; });
+        const uint8_t *close = q == end ? end : std::find(q + 1, end, *q);
+        if (close == end) return;
+        on_text(bytes, n, d, (uint64_t)(q + 1 - bytes), (uint64_t)(close - q - 1), high);
+        q = close + 1;
+    }
+}
+
+// A further call is added here: a function like on_text, and a line in all_calls. A call with a lane record, an input and an out buffer takes the
+// record from Dials (its bytes as they come, impossible numbers too), the input from `bytes`, and the out buffer from a Fence of its own, as on_text
+// takes its scratch.
+void all_calls(const uint8_t *bytes, size_t n, const Dials &d, bool high) {
+    Read r = on_read(bytes, n);
+    on_check(bytes, n, r);
+    on_text(bytes, n, d, d.start, d.length, high);
+    if (r.answer == 0) on_values(bytes, n, d, r, high);
+}
+
+}  // namespace
+
+extern "C" int LLVMFuzzerTestOneInput(const uint8_t *data, size_t size) {
+    static Fence fence;
+    Dials d = take_dials(data, size);
+    std::string in = stretched(data, size, d);
+    for (bool high : {true, false}) {
+        uint8_t *bytes = fence.lend(in.size(), high);
+        memcpy(bytes, in.data(), in.size());
+        all_calls(bytes, in.size(), d, high);
+        expect(memcmp(bytes, in.data(), in.size()) == 0 && fence.side_kept(), "the input is kept");
+    }
+    return 0;
+}
