@@ -8,3 +8,4 @@ pub mod Orders
 pub mod StepForStep
 pub mod SentReceived
 pub mod BenchCalls
+pub mod TailFree

@@ -54,7 +54,7 @@ id-kept (tree n a f) v e h =
     kept-limit v (sym (ap refusalIn (given-has true h)) ∙ y .0)
 
 -- where the Id of a message stands
-place-of-id : (k : ℕ) (place : Bytes → Words) (t : Tree) → k ≡ 10 → messageOf k place t .alive .id ≡ place (text "Id")
+pub place-of-id : (k : ℕ) (place : Bytes → Words) (t : Tree) → k ≡ 10 → messageOf k place t .alive .id ≡ place (text "Id")
 unfolding messageFrom fieldsIn fieldOf rowsOf table
 place-of-id k place t e = rw e
 

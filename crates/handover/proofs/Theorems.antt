@@ -314,7 +314,7 @@ pub record Accepts {l : Lane} {s old new : Bytes} {r : Received} (p : Receives l
   pub accepted : received l (p .checked .message .kind) (boardId (p .checked .message)) .refusal ≡ 0
   pub message : r .message ≡ p .checked .message
 
-moved-zero : (l : Lane) (n : ℕ) (m : Message) → movedBy l n m .refusal ≡ 0 → n ≡ 0
+pub moved-zero : (l : Lane) (n : ℕ) (m : Message) → movedBy l n m .refusal ≡ 0 → n ≡ 0
 unfolding movedBy
 moved-zero l n m e =
     cases (eqb n 0) (λ f. eqb-true n 0 f)
