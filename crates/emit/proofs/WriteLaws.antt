@@ -55,18 +55,6 @@ module _ (m : Message) (texts : Bytes) where
         let j : k ≡ length (writtenOf m texts) = let x = w .next in omega arith in
         record { answer = rw (good, f, l) (ap (λ (n : ℕ). record { refusal = 0; count = n }) j); buffer = rw (good, f, l) (w .bytes ∙ put-starts old (writtenOf m texts) (omega arith)) }
 
-pub low : (lo hi k : ℕ) → k < lo → within lo hi k ≡ false
-unfolding within
-low lo hi k h = rw (lt-leb lo k h)
-
-pub high : (lo hi k : ℕ) → lo ≤ k → hi < k → within lo hi k ≡ false
-unfolding within
-high lo hi k g h = rw (le-leb lo k g, lt-leb k hi h)
-
-pub right : (lo hi k : ℕ) → lo ≤ k → k ≤ hi → within lo hi k ≡ true
-unfolding within
-right lo hi k g h = rw (le-leb lo k g, le-leb k hi h)
-
 -- no second result, and no other buffer, satisfies the promise of `write`
 pub write-only : {m : Message} {texts old new new′ : Bytes} {r r′ : Written} → Writes m texts old new r → Writes m texts old new′ r′ → (r ≡ r′) × (new ≡ new′)
 write-only p q = (p .answer ∙ sym (q .answer), p .buffer ∙ sym (q .buffer))

@@ -167,7 +167,7 @@ sizes-told ea eb ec ed ee eg ei er = record { says = λ h n f. sizes-made (pairs
 abbrev withBoard : Message → Board → Message
 withBoard m b = record { kind = m .kind; service = m .service; notification = m .notification; board = b; ready = m .ready; transport = m .transport; transfer = m .transfer; alive = m .alive }
 
-first-first : (a b c : ℕ) → first (first a b) c ≡ first a (first b c)
+pub first-first : (a b c : ℕ) → first (first a b) c ≡ first a (first b c)
 first-first zero b c = refl
 first-first (suc a) b c = refl
 

@@ -21,12 +21,9 @@ use Rattle.message.specs.declared.kinds.StartTransport.{StartTransport as Start
 use Rattle.message.specs.declared.kinds.Transfer.{Transfer}
 use Rattle.message.specs.declared.kinds.CheckAlive.{CheckAlive as Alive}
 use Rattle.message.specs.declared.kinds.Message.{Message}
+use Rattle.message.proofs.ToldLaws.{first-first}
 use Rattle.writer.specs.Meant.{serviceFields, noticeFields, boardFields, readyFields, startFields, transferFields, aliveFields, fieldsOf, meantBy, meantOf, firstIn, refusalOf}
 use Rattle.writer.specs.Rows.{rowOf, Means, MeansAll, from, BoardHead, Ready, Transport, Transferred}
-
-first-first : (a b c : ℕ) → first (first a b) c ≡ first a (first b c)
-first-first zero b c = refl
-first-first (suc a) b c = refl
 
 none-behind : (a : ℕ) → first a 0 ≡ a
 none-behind zero = refl

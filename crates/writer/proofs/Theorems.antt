@@ -10,11 +10,12 @@ use Rattle.grammar.specs.Limits.{MESSAGE}
 use Rattle.grammar.specs.Name.{Name}
 use Rattle.grammar.specs.Tree.{Tree}
 use Rattle.grammar.specs.Message.{Message as IsMessage}
+use Rattle.value.specs.declared.text.Span.{Span}
 use Rattle.message.specs.Table.{Row, table, rowsOf}
 use Rattle.message.specs.Says.{present, anInt, aText, saidOf}
 use Rattle.message.specs.Fields.{Field, messageFrom, serviceFrom, noticeFrom, boardFrom, readyFrom, startFrom, transferFrom, aliveFrom}
 use Rattle.message.specs.declared.kinds.Message.{Message}
-use Rattle.writer.specs.Meant.{fieldsOf, meantOf, firstIn, refusalOf}
+use Rattle.writer.specs.Meant.{fieldsOf, textAt, meantOf, firstIn, refusalOf}
 use Rattle.writer.specs.Written.{nameOf, writtenOf}
 use Rattle.writer.specs.Notices.{description, notice, noticeMessage}
 use Rattle.writer.proofs.RowLaws.{goodRows}
@@ -139,3 +140,7 @@ notice-lengths = (refl, refl, refl, refl, refl, refl)
 -- no second number satisfies the promise of `refusal_of`
 pub refusal-only : (m : Message) (texts : Bytes) {r r′ : ℕ} → r ≡ refusalOf m texts → r′ ≡ refusalOf m texts → r ≡ r′
 refusal-only m texts e f = e ∙ sym f
+
+-- no second bytes satisfy the promise of `part`
+pub part-only : (texts : Bytes) (p : Span) {r r′ : Bytes} → r ≡ textAt texts p → r′ ≡ textAt texts p → r ≡ r′
+part-only texts p e f = e ∙ sym f

@@ -1,5 +1,6 @@
 -- Each answer in the order that document 01 gives.
-use Rattle.emit.proofs.WriteLaws.{countable, is-refused, no-kind, no-room, is-written, low, high, right}
+use Rattle.writer.proofs.RefusalLaws.{low, high, right}
+use Rattle.emit.proofs.WriteLaws.{countable, is-refused, no-kind, no-room, is-written}
 use borrow.Author.Needs.{needs}
 use Rattle.emit.proofs.writing_out.write.Statement.{statement}
 use Rattle.emit.proofs.writing_out.write.Tie as tie
