@@ -9,3 +9,4 @@ pub mod StepForStep
 pub mod SentReceived
 pub mod BenchCalls
 pub mod TailFree
+pub mod OneHandover

@@ -2,4 +2,5 @@ pub mod Ids
 pub mod Receiving
 pub mod Sending
 pub mod Runs
+pub mod Mirror
 pub mod Bench
