@@ -6,7 +6,7 @@
 #include <iterator>
 #include <vector>
 
-extern "C" uint8_t tryphomel_check(const uint8_t *bytes, size_t length, uint64_t *end, uint64_t *kind, uint64_t *long_side, uint64_t *failed);
+extern "C" uint8_t tryphomel_check(const uint8_t *bytes, size_t length, uint64_t numbers[65], uint8_t id[36], uint64_t *start, uint64_t *end, uint64_t *place);
 
 int main(int, char **words) {
     std::ifstream file(words[1], std::ios::binary);
@@ -16,8 +16,9 @@ int main(int, char **words) {
         auto from = std::chrono::steady_clock::now();
         size_t at = 0, messages = 0;
         for (;;) {
-            uint64_t end = 0, kind = 0, length = 0, failed = 0;
-            uint8_t refusal = tryphomel_check(run.data() + at, run.size() - at, &end, &kind, &length, &failed);
+            uint64_t numbers[65], start = 0, end = 0, place = 0;
+            uint8_t id[36];
+            uint8_t refusal = tryphomel_check(run.data() + at, run.size() - at, numbers, id, &start, &end, &place);
             if (refusal == 1 || refusal == 2 || refusal == 3) break;
             at += end;
             ++messages;

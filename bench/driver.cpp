@@ -15,7 +15,7 @@
 #include <vector>
 
 extern "C" uint8_t tryphomel_read(const uint8_t *bytes, size_t length, uint64_t *start, uint64_t *place);
-extern "C" uint8_t tryphomel_check(const uint8_t *bytes, size_t length, uint64_t *end, uint64_t *kind, uint64_t *long_side, uint64_t *failed);
+extern "C" uint8_t tryphomel_check(const uint8_t *bytes, size_t length, uint64_t numbers[65], uint8_t id[36], uint64_t *start, uint64_t *end, uint64_t *place);
 
 namespace {
 
@@ -371,10 +371,11 @@ double ours_checked(const Stream &s, Sum &sum) {
                size_t at = 0;
                sum = Sum();
                while (at < run.size()) {
-                   uint64_t end, kind, length, failed;
-                   uint8_t refusal = tryphomel_check((const uint8_t *)run.data() + at, run.size() - at, &end, &kind, &length, &failed);
-                   if (refusal != 0 || kind != 3) return false;
-                   sum.add(true, length, failed);
+                   uint64_t numbers[65], start, end, place;
+                   uint8_t id[36];
+                   uint8_t refusal = tryphomel_check((const uint8_t *)run.data() + at, run.size() - at, numbers, id, &start, &end, &place);
+                   if (refusal != 0 || numbers[0] != 3) return false;
+                   sum.add(true, numbers[37], numbers[24]);
                    at += end;
                }
                return sum.accepted == s.size();

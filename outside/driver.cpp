@@ -91,14 +91,19 @@ std::string shown(const Verdict &v) {
 
 // The check says the same of start and end as the reader, and of a message what the table says of a peer's tree.
 void checked(Case &c, const Bytes &in, const Answer &a, const Tree &tree) {
-    uint64_t end = UINT64_MAX;
+    uint64_t numbers[65], start = UINT64_MAX, end = UINT64_MAX, place = UINT64_MAX;
+    uint8_t id[36];
     Verdict ours, want;
-    ours.refusal = tryphomel_check((const uint8_t *)in.data(), in.size(), &end, &ours.kind, &ours.length, &ours.failed);
+    ours.refusal = tryphomel_check((const uint8_t *)in.data(), in.size(), numbers, id, &start, &end, &place);
+    ours.kind = numbers[0];
+    ours.length = numbers[37];
+    ours.failed = numbers[24];
     want.refusal = a.number;
     if (a.number == 0) want = verdict(tree);
     if (a.number == 0) tally.verdicts[want.refusal]++;
-    if (ours == want && end == (a.number ? 0 : a.place)) return;
-    c.fail("the check", in, shown(ours) + ", end " + std::to_string(end), shown(want) + "; the reader: " + shown(a));
+    if (ours == want && start == a.start && end == (a.number ? 0 : a.place) && place == (a.number == 2 ? a.place : 0)) return;
+    c.fail("the check", in, shown(ours) + ", start " + std::to_string(start) + ", end " + std::to_string(end) + ", place " + std::to_string(place),
+           shown(want) + "; the reader: " + shown(a));
 }
 
 unsigned long values_in(const Tree &t) {

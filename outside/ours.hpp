@@ -11,7 +11,7 @@
 
 extern "C" {
 uint8_t tryphomel_read(const uint8_t *bytes, size_t length, uint64_t *start, uint64_t *place);
-uint8_t tryphomel_check(const uint8_t *bytes, size_t length, uint64_t *end, uint64_t *kind, uint64_t *long_side, uint64_t *failed);
+uint8_t tryphomel_check(const uint8_t *bytes, size_t length, uint64_t numbers[65], uint8_t id[36], uint64_t *start, uint64_t *end, uint64_t *place);
 uint8_t tryphomel_text(const uint8_t *bytes, size_t length, uint8_t there, uint64_t start, uint64_t count, uint8_t *scratch, size_t room,
                        uint64_t *place, uint64_t *at, uint64_t *size);
 }

@@ -1,3 +1,8 @@
+pub mod Reading
 pub mod Numbers
-pub mod Findings
+pub mod Messages
 pub mod Texts
+pub mod Lanes
+pub mod Checking
+pub mod Receiving
+pub mod Sending

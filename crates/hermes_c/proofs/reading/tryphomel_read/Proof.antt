@@ -1,8 +1,8 @@
 -- The numbers that C is handed are those of the answer.
-use Rattle.hermes_c.proofs.Numbers.{told}
+use Rattle.hermes_c.proofs.ReadLaws.{told}
 use borrow.Author.Needs.{needs}
-use Rattle.hermes_c.proofs.tryphomel_read.Statement.{statement}
-use Rattle.hermes_c.proofs.tryphomel_read.Tie as tie
+use Rattle.hermes_c.proofs.reading.tryphomel_read.Statement.{statement}
+use Rattle.hermes_c.proofs.reading.tryphomel_read.Tie as tie
 
 read-requires : tie.Need-read-requires
 read-requires c κs = search needs

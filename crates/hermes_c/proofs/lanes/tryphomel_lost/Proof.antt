@@ -1,0 +1,17 @@
+-- The side is kept.
+use Rattle.hermes_c.proofs.LaneLaws.{lost-parts}
+use borrow.Author.Needs.{needs}
+use Rattle.hermes_c.proofs.lanes.tryphomel_lost.Statement.{statement}
+use Rattle.hermes_c.proofs.lanes.tryphomel_lost.Tie as tie
+use Rattle.hermes_c.proofs.lanes.tryphomel_lost.Reads as reads
+use Rattle.hermes_c.proofs.lanes.tryphomel_lost.Lts as lts
+use Rattle.lane.proofs.Lane.lost.Reads as lost-reads
+
+lost-requires : tie.Need-lost-requires
+lost-requires c κs = search needs
+
+returns : tie.Need-returns
+returns c = lost-parts (c .before .before .lost .ensures)
+
+pub tryphomel-lost-spec : {M : Type 1} → statement M
+tryphomel-lost-spec = tie.close (tie.spec lost-requires returns)

@@ -1,0 +1,53 @@
+// Receiving a message.
+ghost use Rattle.hermes_c.specs.Lanes.{laneOf};
+ghost use Rattle.hermes_c.specs.Receiving.{ReceivesAs};
+use crate::numbers::id_of;
+use crate::numbers::numbers_of;
+use lane::Lane;
+
+/// Receives the message that stands first in the bytes, behind glue: checks it, moves the lane, and writes the Notification of a refusal or the
+/// reply to a CheckAlive first into the buffer. Answers the refusal; the belt order; how many of the bytes are used, and how many of the buffer
+/// are written; the place of a malformed byte; and an accepted message's numbers and BoardId.
+#[no_mangle]
+pub extern "C" fn tryphomel_receive(
+    side: u8,
+    state: &mut u8,
+    offered: &mut [u8; 36],
+    running: &mut [u8; 36],
+    bytes: &[u8],
+    out: &mut [u8],
+    numbers: &mut [u64; 65],
+    id: &mut [u8; 36],
+    order: &mut u8,
+    used: &mut u64,
+    written: &mut u64,
+    place: &mut u64,
+) -> u8
+    ensures { λ r. ⌜ ReceivesAs (laneOf side (now (state .entry)) (now (offered .entry)) (now (running .entry))) (now (bytes .entry)) (now (out .entry)) (now (out .exit)) r (now (state .exit)) (now (offered .exit)) (now (running .exit)) (now (numbers .exit)) (now (id .exit)) (now (order .exit)) (now (used .exit)) (now (written .exit)) (now (place .exit)) ⌝ }
+{
+    let o = *offered;
+    let r = *running;
+    let lane = Lane {
+        side: side,
+        state: *state,
+        offered: o,
+        running: r,
+    };
+    let a = handover::receive(lane, bytes, out);
+    let m = a.message;
+    let next = a.lane;
+    let guid = id_of(m);
+    let b = guid.bytes;
+    let o = next.offered;
+    let r = next.running;
+    *state = next.state;
+    *offered = o;
+    *running = r;
+    *numbers = numbers_of(m);
+    *id = b;
+    *order = a.order;
+    *used = a.used as u64;
+    *written = a.written as u64;
+    *place = a.place as u64;
+    a.refusal
+}

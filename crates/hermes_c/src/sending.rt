@@ -1,0 +1,44 @@
+// Sending a message.
+ghost use Rattle.hermes_c.specs.Lanes.{laneOf};
+ghost use Rattle.hermes_c.specs.Messages.{messageOf};
+ghost use Rattle.hermes_c.specs.Sending.{SendsAs};
+use crate::messages::message_of;
+use lane::Lane;
+
+/// Sends the message of these numbers and this BoardId, whose texts are parts of `texts`: it stands first in the buffer, and the lane is moved.
+/// Every refusal keeps both. Answers the refusal; the belt order; and how many bytes of the buffer are written.
+#[no_mangle]
+pub extern "C" fn tryphomel_send(
+    side: u8,
+    state: &mut u8,
+    offered: &mut [u8; 36],
+    running: &mut [u8; 36],
+    numbers: &[u64; 65],
+    id: &[u8; 36],
+    texts: &[u8],
+    out: &mut [u8],
+    order: &mut u8,
+    written: &mut u64,
+) -> u8
+    ensures { λ r. ⌜ SendsAs (laneOf side (now (state .entry)) (now (offered .entry)) (now (running .entry))) (messageOf (now (numbers .entry)) (now (id .entry))) (now (texts .entry)) (now (out .entry)) (now (out .exit)) r (now (state .exit)) (now (offered .exit)) (now (running .exit)) (now (order .exit)) (now (written .exit)) ⌝ }
+{
+    let o = *offered;
+    let r = *running;
+    let lane = Lane {
+        side: side,
+        state: *state,
+        offered: o,
+        running: r,
+    };
+    let m = message_of(numbers, id);
+    let a = handover::send(lane, m, texts, out);
+    let next = a.lane;
+    let o = next.offered;
+    let r = next.running;
+    *state = next.state;
+    *offered = o;
+    *running = r;
+    *order = a.order;
+    *written = a.written as u64;
+    a.refusal
+}
