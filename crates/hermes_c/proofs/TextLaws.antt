@@ -1,28 +1,20 @@
 -- An answer that is known tells its numbers, and no second numbers and scratch satisfy the promise of `tryphomel_text`.
 use mathlib.Core.Path.{_≡_, refl, sym, ap, subst, _∙_}
-use mathlib.Core.Bool.{Bool, cond}
 use Prim.Native.Nat.{ℕ}
-use borrow.Author.Tests.{eq-eqb, ne-eqb}
 use Rattle.grammar.specs.Bytes.{Bytes}
 use Rattle.value.specs.Asking.{TextSays}
 use Rattle.value.specs.Asked.{refusalOf}
 use Rattle.value.specs.Only.{decode-only}
 use Rattle.value.specs.declared.text.Words.{Words}
-use Rattle.value.specs.declared.text.Words.the-variants.{Absent, Present}
 use Rattle.value.specs.declared.text.TextAt.{TextAt}
-use Rattle.hermes_c.specs.Texts.{wordsOf, sideOf, atOf, countOf, TextTold}
+use Rattle.hermes_c.specs.Messages.{textFrom}
+use Rattle.hermes_c.specs.Texts.{sideOf, atOf, countOf, TextTold}
 
-pub words-absent : (there start len : ℕ) → there ≡ 0 → Absent ≡ wordsOf there start len
-words-absent there start len e = ap (λ (z : Bool). cond z Absent (Present (record { start = start; len = len }))) (sym (eq-eqb there 0 e))
-
-pub words-present : (there start len : ℕ) → (there ≡ 0 → ⊥) → Present (record { start = start; len = len }) ≡ wordsOf there start len
-words-present there start len h = ap (λ (z : Bool). cond z Absent (Present (record { start = start; len = len }))) (sym (ne-eqb there 0 h))
-
-pub text-told : (s : Bytes) (there start len : ℕ) (old new : Bytes) (t : Words) (r a : TextAt) → t ≡ wordsOf there start len → r ≡ a → TextSays s t old new r → TextTold s there start len old new (refusalOf a) (sideOf a) (atOf a) (countOf a)
+pub text-told : (s : Bytes) (there start len : ℕ) (old new : Bytes) (t : Words) (r a : TextAt) → t ≡ textFrom there start len → r ≡ a → TextSays s t old new r → TextTold s there start len old new (refusalOf a) (sideOf a) (atOf a) (countOf a)
 text-told s there start len old new t r a e f p =
     record {
       answer = a;
-      says = subst (λ (x : TextAt). TextSays s (wordsOf there start len) old new x) f (subst (λ (x : Words). TextSays s x old new r) e p);
+      says = subst (λ (x : TextAt). TextSays s (textFrom there start len) old new x) f (subst (λ (x : Words). TextSays s x old new r) e p);
       refuses = refl;
       sides = refl;
       ats = refl;

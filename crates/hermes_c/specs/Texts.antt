@@ -1,19 +1,12 @@
 -- A text that C asks for: the refusal and three numbers, and the scratch.
 use mathlib.Core.Path.{_≡_}
-use mathlib.Core.Bool.{cond}
 use Prim.Native.Nat.{ℕ}
-use lib.Dec.{eqb}
 use Rattle.grammar.specs.Bytes.{Bytes}
 use Rattle.value.specs.Asking.{TextSays}
 use Rattle.value.specs.Asked.{refusalOf}
-use Rattle.value.specs.declared.text.Words.{Words}
-use Rattle.value.specs.declared.text.Words.the-variants.{Absent, Present}
 use Rattle.value.specs.declared.text.TextAt.{TextAt}
 use Rattle.value.specs.declared.text.TextAt.the-variants.{InMessage, InScratch, No}
-
--- the value that C means: absent if `there` is 0
-abbrev pub wordsOf : ℕ → ℕ → ℕ → Words
-wordsOf there start len = cond (eqb there 0) Absent (Present (record { start = start; len = len }))
+use Rattle.hermes_c.specs.Messages.{textFrom}
 
 -- which bytes the text is part of: 1 the message, 2 the scratch, 0 none
 abbrev pub sideOf : TextAt → ℕ
@@ -36,7 +29,7 @@ countOf (No k) = 0
 -- old, new: the scratch before and after
 pub record TextTold (s : Bytes) (there start len : ℕ) (old new : Bytes) (refusal place at count : ℕ) : Type 0 where
   pub answer : TextAt
-  pub says : TextSays s (wordsOf there start len) old new answer
+  pub says : TextSays s (textFrom there start len) old new answer
   pub refuses : refusal ≡ refusalOf answer
   pub sides : place ≡ sideOf answer
   pub ats : at ≡ atOf answer

@@ -34,7 +34,8 @@ fn kind_from(n: u64) -> u8
     255
 }
 
-fn text_from(there: u64, start: u64, len: u64) -> Words
+/// A text that is there, or not.
+pub fn text_from(there: u64, start: u64, len: u64) -> Words
     ensures { λ r. ⌜ r ≡ textFrom there start len ⌝ }
 {
     if there == 0 {

@@ -1,21 +1,7 @@
 // A text of a message for C: the refusal, and which bytes the text is.
-ghost use mathlib.Core.Path.{_≡_};
-ghost use Rattle.hermes_c.specs.Texts.{wordsOf, TextTold};
-use value::Span;
+ghost use Rattle.hermes_c.specs.Texts.{TextTold};
+use crate::messages::text_from;
 use value::TextAt;
-use value::Words;
-
-fn words_of(there: u8, start: usize, len: usize) -> Words
-    ensures { λ r. ⌜ r ≡ wordsOf there start len ⌝ }
-{
-    if there == 0 {
-        return Words::Absent;
-    }
-    Words::Present(Span {
-        start: start,
-        len: len,
-    })
-}
 
 /// The text of the raw value that stands at `start`, `len` bytes long, or is absent if `there` is 0. It returns the refusal.
 /// On 0 `place` is 1 if the text is the `count` bytes of `bytes` from `at` on, and 2 if it is the first `count` bytes of
@@ -33,7 +19,7 @@ pub extern "C" fn tryphomel_text(
 ) -> u8
     ensures { λ r. ⌜ TextTold (now (bytes .entry)) there start len (now (scratch .entry)) (now (scratch .exit)) r (now (place .exit)) (now (at .exit)) (now (count .exit)) ⌝ }
 {
-    let t = words_of(there, start as usize, len as usize);
+    let t = text_from(there as u64, start, len);
     let answer = value::text_decode(bytes, t, scratch);
     match answer {
         TextAt::InMessage(p) => {

@@ -5,8 +5,8 @@ use borrow.Author.Needs.{needs}
 use Rattle.hermes_c.proofs.texts.tryphomel_text.Statement.{statement}
 use Rattle.hermes_c.proofs.texts.tryphomel_text.Tie as tie
 
-words-of-requires : tie.Need-words-of-requires
-words-of-requires c κs = search needs
+text-from-requires : tie.Need-text-from-requires
+text-from-requires c κs = search needs
 
 text-decode-requires : tie.Need-text-decode-requires
 text-decode-requires c κs = search needs
@@ -25,27 +25,27 @@ same-length c = search needs
 
 returns : tie.Need-returns
 unfolding refusalOf
-returns c = text-told _ _ _ _ _ _ _ _ _ (c .before .before .before .before .before .before .before .words-of .ensures) (c .before .answer .given .1) (c .before .before .before .before .before .text-decode .ensures)
+returns c = text-told _ _ _ _ _ _ _ _ _ (c .before .before .before .before .before .before .before .text-from .ensures) (c .before .answer .given .1) (c .before .before .before .before .before .text-decode .ensures)
 
 same-length-2 : tie.Need-same-length-2
 same-length-2 c = search needs
 
 returns-2 : tie.Need-returns-2
 unfolding refusalOf
-returns-2 c = text-told _ _ _ _ _ _ _ _ _ (c .before .before .before .before .before .before .before .words-of .ensures) (c .before .answer2 .given .1) (c .before .before .before .before .before .text-decode .ensures)
+returns-2 c = text-told _ _ _ _ _ _ _ _ _ (c .before .before .before .before .before .before .before .text-from .ensures) (c .before .answer2 .given .1) (c .before .before .before .before .before .text-decode .ensures)
 
 same-length-3 : tie.Need-same-length-3
 same-length-3 c = search needs
 
 returns-3 : tie.Need-returns-3
 unfolding refusalOf
-returns-3 c = text-told _ _ _ _ _ _ _ _ _ (c .before .before .before .before .before .before .before .words-of .ensures) (c .before .answer3 .given .1) (c .before .before .before .before .before .text-decode .ensures)
+returns-3 c = text-told _ _ _ _ _ _ _ _ _ (c .before .before .before .before .before .before .before .text-from .ensures) (c .before .answer3 .given .1) (c .before .before .before .before .before .text-decode .ensures)
 
 pub tryphomel-text-spec : {M : Type 1} → statement M
 tryphomel-text-spec =
     tie.close
     (tie.spec
-    words-of-requires
+    text-from-requires
     text-decode-requires
     enum-known-answer
     enum-known-answer-2
