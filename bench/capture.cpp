@@ -6,7 +6,7 @@
 #include <iterator>
 #include <vector>
 
-extern "C" uint8_t tryphomel_check(const uint8_t *bytes, size_t length, uint64_t numbers[65], uint8_t id[36], uint64_t *start, uint64_t *end, uint64_t *place);
+#include "../include/tryphomel.h"
 
 int main(int, char **words) {
     std::ifstream file(words[1], std::ios::binary);
@@ -16,11 +16,10 @@ int main(int, char **words) {
         auto from = std::chrono::steady_clock::now();
         size_t at = 0, messages = 0;
         for (;;) {
-            uint64_t numbers[65], start = 0, end = 0, place = 0;
-            uint8_t id[36];
-            uint8_t refusal = tryphomel_check(run.data() + at, run.size() - at, numbers, id, &start, &end, &place);
-            if (refusal == 1 || refusal == 2 || refusal == 3) break;
-            at += end;
+            tryphomel_checked c;
+            uint8_t refusal = tryphomel_message_check(run.data() + at, run.size() - at, &c);
+            if (refusal == TRYPHOMEL_MORE_NEEDED || refusal == TRYPHOMEL_MALFORMED || refusal == TRYPHOMEL_TOO_LONG) break;
+            at += c.end;
             ++messages;
         }
         std::chrono::duration<double, std::nano> spent = std::chrono::steady_clock::now() - from;

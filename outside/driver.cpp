@@ -91,18 +91,18 @@ std::string shown(const Verdict &v) {
 
 // The check says the same of start and end as the reader, and of a message what the table says of a peer's tree.
 void checked(Case &c, const Bytes &in, const Answer &a, const Tree &tree) {
-    uint64_t numbers[65], start = UINT64_MAX, end = UINT64_MAX, place = UINT64_MAX;
-    uint8_t id[36];
+    tryphomel_checked found;
     Verdict ours, want;
-    ours.refusal = tryphomel_check((const uint8_t *)in.data(), in.size(), numbers, id, &start, &end, &place);
-    ours.kind = numbers[0];
-    ours.length = numbers[37];
-    ours.failed = numbers[24];
+    memset(&found, 0xa5, sizeof found);
+    ours.refusal = tryphomel_message_check(in.data(), in.size(), &found);
+    ours.kind = found.message.kind;
+    ours.length = found.message.board.length.value;
+    ours.failed = found.message.board.failed.value;
     want.refusal = a.number;
     if (a.number == 0) want = verdict(tree);
     if (a.number == 0) tally.verdicts[want.refusal]++;
-    if (ours == want && start == a.start && end == (a.number ? 0 : a.place) && place == (a.number == 2 ? a.place : 0)) return;
-    c.fail("the check", in, shown(ours) + ", start " + std::to_string(start) + ", end " + std::to_string(end) + ", place " + std::to_string(place),
+    if (ours == want && found.start == a.start && found.end == (a.number ? 0 : a.place) && found.place == (a.number == 2 ? a.place : 0)) return;
+    c.fail("the check", in, shown(ours) + ", start " + std::to_string(found.start) + ", end " + std::to_string(found.end) + ", place " + std::to_string(found.place),
            shown(want) + "; the reader: " + shown(a));
 }
 

@@ -12,12 +12,7 @@
 #include <cstring>
 #include <string>
 
-extern "C" {
-uint8_t tryphomel_read(const uint8_t *bytes, size_t length, uint64_t *start, uint64_t *place);
-uint8_t tryphomel_check(const uint8_t *bytes, size_t length, uint64_t numbers[65], uint8_t id[36], uint64_t *start, uint64_t *end, uint64_t *place);
-uint8_t tryphomel_text(const uint8_t *bytes, size_t length, uint8_t there, uint64_t start, uint64_t count, uint8_t *scratch, size_t room,
-                       uint64_t *place, uint64_t *at, uint64_t *size);
-}
+#include "../include/tryphomel.h"
 
 namespace {
 
@@ -102,12 +97,12 @@ Read on_read(const uint8_t *bytes, size_t n) {
 }
 
 void on_check(const uint8_t *bytes, size_t n, const Read &r) {
-    uint64_t numbers[65], start = 9, end = 9, place = 9;
-    uint8_t id[36];
-    unsigned refusal = tryphomel_check(bytes, n, numbers, id, &start, &end, &place);
-    uint64_t kind = numbers[0], length = numbers[37], failed = numbers[24];
+    tryphomel_checked c;
+    memset(&c, 9, sizeof c);
+    unsigned refusal = tryphomel_message_check(bytes, n, &c);
+    uint64_t end = c.end, kind = c.message.kind, length = c.message.board.length.value, failed = c.message.board.failed.value;
     bool fits = r.answer ? refusal == r.answer && end == 0 && kind == 0 : end == r.place && kind <= 10;
-    expect(start == r.start && place == (r.answer == 2 ? r.place : 0), "the check says where, as the reader does");
+    expect(c.start == r.start && c.place == (r.answer == 2 ? r.place : 0), "the check says where, as the reader does");
     expect(fits, "the check says what the reader says");
     expect(r.answer || refusal == 0 || refusal == 4 || refusal == 5 || refusal == 6, "a refusal of a message");
     expect((refusal == 0 && kind == 3) || (length == 0 && failed == 0), "values of an accepted BoardAvailable alone");

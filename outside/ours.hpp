@@ -6,15 +6,9 @@
 #include <utility>
 #include <vector>
 
+#include "../include/tryphomel.h"
 #include "make.hpp"
 #include "peers.hpp"
-
-extern "C" {
-uint8_t tryphomel_read(const uint8_t *bytes, size_t length, uint64_t *start, uint64_t *place);
-uint8_t tryphomel_check(const uint8_t *bytes, size_t length, uint64_t numbers[65], uint8_t id[36], uint64_t *start, uint64_t *end, uint64_t *place);
-uint8_t tryphomel_text(const uint8_t *bytes, size_t length, uint8_t there, uint64_t start, uint64_t count, uint8_t *scratch, size_t room,
-                       uint64_t *place, uint64_t *at, uint64_t *size);
-}
 
 // Answer 0: start and end of a message. 1: start. 2: start and place. 3: start.
 struct Answer {

@@ -1,0 +1,272 @@
+/* Handover messages between machines of a line (IPC-HERMES-9852): the calls of the static library, and structs over them. C99, or C++.
+ *
+ * Every call answers for all inputs, needs no memory but its stack, keeps no state and may be called from any thread. What is lent to one
+ * call must not overlap: no buffer with another one, and the id of a message to be sent not with the ids of its lane. No pointer may be null,
+ * not even one whose length is 0. For 64-bit processors.
+ *
+ * Use the functions over the structs, in the second half. The calls below them take numbers, byte slices and arrays only, because these are
+ * passed alike on every processor. A slice is a pointer and then its length.
+ */
+#ifndef TRYPHOMEL_H
+#define TRYPHOMEL_H
+
+#include <stddef.h>
+#include <stdint.h>
+
+typedef char tryphomel_wants_64_bits[sizeof(size_t) == 8 ? 1 : -1];
+
+#ifdef __cplusplus
+extern "C" {
+#endif
+
+/* Sides of a lane. */
+enum {
+    TRYPHOMEL_UPSTREAM = 1,
+    TRYPHOMEL_DOWNSTREAM = 2
+};
+
+/* States of a lane. IDLE is the standard's NotAvailableNotReady, BOTH its AvailableAndReady. */
+enum {
+    TRYPHOMEL_NOT_CONNECTED = 0,
+    TRYPHOMEL_DESCRIBED_DOWN = 1,
+    TRYPHOMEL_IDLE = 2,
+    TRYPHOMEL_OFFERED = 3,
+    TRYPHOMEL_READY = 4,
+    TRYPHOMEL_BOTH = 5,
+    TRYPHOMEL_TRANSPORTING = 6,
+    TRYPHOMEL_STOPPED = 7,
+    TRYPHOMEL_FINISHED = 8
+};
+
+/* Kinds of message. An UNKNOWN one is received and ignored, and can't be sent. */
+enum {
+    TRYPHOMEL_UNKNOWN = 0,
+    TRYPHOMEL_SERVICE_DESCRIPTION = 1,
+    TRYPHOMEL_NOTIFICATION = 2,
+    TRYPHOMEL_BOARD_AVAILABLE = 3,
+    TRYPHOMEL_REVOKE_BOARD_AVAILABLE = 4,
+    TRYPHOMEL_MACHINE_READY = 5,
+    TRYPHOMEL_REVOKE_MACHINE_READY = 6,
+    TRYPHOMEL_START_TRANSPORT = 7,
+    TRYPHOMEL_STOP_TRANSPORT = 8,
+    TRYPHOMEL_TRANSPORT_FINISHED = 9,
+    TRYPHOMEL_CHECK_ALIVE = 10
+};
+
+/* Belt orders. */
+enum {
+    TRYPHOMEL_ORDER_NONE = 0,
+    TRYPHOMEL_ORDER_RUN = 1,
+    TRYPHOMEL_ORDER_CANCEL = 2,
+    TRYPHOMEL_ORDER_STOP_NOW = 3
+};
+
+/* Refusals. In receiving, 2 to 6 and 9 end the connection: send what was written, close, and connect anew. 1 asks for more bytes behind the
+ * same ones, 7 for a larger buffer. In sending, every refusal keeps lane and buffer. */
+enum {
+    TRYPHOMEL_ACCEPTED = 0,
+    TRYPHOMEL_MORE_NEEDED = 1,
+    TRYPHOMEL_MALFORMED = 2,
+    TRYPHOMEL_TOO_LONG = 3,
+    TRYPHOMEL_MISSING = 4,
+    TRYPHOMEL_TEXT_TOO_LONG = 5,
+    TRYPHOMEL_BAD_VALUE = 6,
+    TRYPHOMEL_NO_ROOM = 7,
+    TRYPHOMEL_MAY_NOT_BE_SENT = 8,
+    TRYPHOMEL_PROTOCOL_ERROR = 9
+};
+
+/* The Type of a CheckAlive: a PING is replied to with a PONG. */
+enum {
+    TRYPHOMEL_PING = 1,
+    TRYPHOMEL_PONG = 2
+};
+
+/* Where a text is. */
+enum {
+    TRYPHOMEL_NOWHERE = 0,
+    TRYPHOMEL_IN_BYTES = 1,
+    TRYPHOMEL_IN_SCRATCH = 2
+};
+
+/* Limits of a message: its bytes, a name's bytes, the attributes of an element, open elements; and bytes of short and long texts as read. */
+enum {
+    TRYPHOMEL_MESSAGE_BYTES = 65536,
+    TRYPHOMEL_NAME_BYTES = 64,
+    TRYPHOMEL_ATTRIBUTES = 32,
+    TRYPHOMEL_DEPTH = 6,
+    TRYPHOMEL_SHORT_TEXT = 80,
+    TRYPHOMEL_LONG_TEXT = 254
+};
+
+/* Sizes: a BoardId's bytes, a message's numbers, and the room that receiving and sending can want at most. */
+enum {
+    TRYPHOMEL_ID_BYTES = 36,
+    TRYPHOMEL_NUMBERS = 65,
+    TRYPHOMEL_RECEIVE_ROOM = 525,
+    TRYPHOMEL_SEND_ROOM = 5933
+};
+
+/* A text. Received: the place of its raw value in the bytes that were received; tryphomel_text reads it. To be sent: the place of the plain
+ * UTF-8 in the texts. `there` is 0 or 1; in a message to be sent any number but 0 is yes. */
+typedef struct {
+    uint64_t there, start, len;
+} tryphomel_words;
+
+/* An int, or a measure in millionths: 160.5 is 160500000. */
+typedef struct {
+    uint64_t there, value;
+} tryphomel_number;
+
+/* SupportedFeatures, and which features stand in it. */
+typedef struct {
+    uint64_t there, forecast, query, send;
+} tryphomel_features;
+
+/* A message of any kind. What is not its kind's is zero in a received message, and ignored in one to be sent. The members to `id_there` are
+ * the 65 numbers of the calls, in their order. */
+typedef struct {
+    uint64_t kind;
+    struct {
+        tryphomel_words machine;
+        tryphomel_number lane;
+        tryphomel_words version;
+        tryphomel_features features;
+    } service;
+    struct {
+        tryphomel_number code, severity;
+        tryphomel_words description;
+    } notification;
+    struct {
+        tryphomel_words by;
+        tryphomel_number failed;
+        tryphomel_words product;
+        tryphomel_number flipped;
+        tryphomel_words top, bottom;
+        tryphomel_number length, width, thickness, speed, above, below, weight;
+        tryphomel_words order;
+    } board;
+    struct {
+        tryphomel_number failed;
+    } ready;
+    struct {
+        tryphomel_number speed;
+    } transport;
+    struct { /* StopTransport and TransportFinished */
+        tryphomel_number state;
+    } transfer;
+    struct {
+        tryphomel_number ping; /* Type */
+        tryphomel_words id;
+    } alive;
+    uint64_t id_there; /* the BoardId of a BoardAvailable, StartTransport, StopTransport or TransportFinished */
+    uint8_t id[TRYPHOMEL_ID_BYTES];
+} tryphomel_message;
+
+/* A lane: keep it between the calls, and change it by the calls only. */
+typedef struct {
+    uint8_t side, state, offered[TRYPHOMEL_ID_BYTES], running[TRYPHOMEL_ID_BYTES];
+} tryphomel_lane;
+
+/* What a check answers: a message from `start` to `end`, or the malformed byte at `place`. */
+typedef struct {
+    uint8_t refusal;
+    uint64_t start, end, place;
+    tryphomel_message message;
+} tryphomel_checked;
+
+/* What receiving answers: drop `used` of the bytes, send `written` of the buffer, obey `order`. */
+typedef struct {
+    uint8_t refusal, order;
+    uint64_t used, written, place;
+    tryphomel_message message;
+} tryphomel_received;
+
+/* What sending answers: send `written` of the buffer, obey `order`. */
+typedef struct {
+    uint8_t refusal, order;
+    uint64_t written;
+} tryphomel_sent;
+
+/* The calls. */
+
+/* Where the message behind the blanks in front of the bytes starts, and its end or its malformed place. */
+uint8_t tryphomel_read(const uint8_t *bytes, size_t size, uint64_t *start, uint64_t *place);
+
+/* What that message says. */
+uint8_t tryphomel_check(const uint8_t *bytes, size_t size, uint64_t numbers[TRYPHOMEL_NUMBERS], uint8_t id[TRYPHOMEL_ID_BYTES], uint64_t *start,
+                        uint64_t *end, uint64_t *place);
+
+/* The text of a value: refusal 0, 4, 6 or 7; place 1: bytes[at..at+count], 2: scratch[0..count]. */
+uint8_t tryphomel_text(const uint8_t *bytes, size_t size, uint8_t there, uint64_t start, uint64_t len, uint8_t *scratch, size_t room, uint64_t *place,
+                       uint64_t *at, uint64_t *count);
+
+/* A new lane of a side, and a lane after its connection was lost. */
+void tryphomel_upstream(uint8_t *side, uint8_t *state, uint8_t offered[TRYPHOMEL_ID_BYTES], uint8_t running[TRYPHOMEL_ID_BYTES]);
+void tryphomel_downstream(uint8_t *side, uint8_t *state, uint8_t offered[TRYPHOMEL_ID_BYTES], uint8_t running[TRYPHOMEL_ID_BYTES]);
+void tryphomel_lost(uint8_t side, uint8_t *state, uint8_t offered[TRYPHOMEL_ID_BYTES], uint8_t running[TRYPHOMEL_ID_BYTES]);
+
+/* Receives the message behind the blanks in front of the bytes. The Notification of a refusal or the reply to a CheckAlive stands first in
+ * `out`; the rest of it is kept. */
+uint8_t tryphomel_receive(uint8_t side, uint8_t *state, uint8_t offered[TRYPHOMEL_ID_BYTES], uint8_t running[TRYPHOMEL_ID_BYTES],
+                          const uint8_t *bytes, size_t size, uint8_t *out, size_t room, uint64_t numbers[TRYPHOMEL_NUMBERS],
+                          uint8_t id[TRYPHOMEL_ID_BYTES], uint8_t *order, uint64_t *used, uint64_t *written, uint64_t *place);
+
+/* Writes a message first into `out`, if the lane may send it. An int above 4294967295 counts as 4294967295, a kind above 255 as 255. */
+uint8_t tryphomel_send(uint8_t side, uint8_t *state, uint8_t offered[TRYPHOMEL_ID_BYTES], uint8_t running[TRYPHOMEL_ID_BYTES],
+                       const uint64_t numbers[TRYPHOMEL_NUMBERS], const uint8_t id[TRYPHOMEL_ID_BYTES], const uint8_t *texts, size_t size, uint8_t *out,
+                       size_t room, uint8_t *order, uint64_t *written);
+
+#ifdef __cplusplus
+}
+#endif
+
+/* The same over the structs. */
+
+static inline void tryphomel_lane_upstream(tryphomel_lane *lane) { tryphomel_upstream(&lane->side, &lane->state, lane->offered, lane->running); }
+
+static inline void tryphomel_lane_downstream(tryphomel_lane *lane) { tryphomel_downstream(&lane->side, &lane->state, lane->offered, lane->running); }
+
+static inline void tryphomel_lane_lost(tryphomel_lane *lane) { tryphomel_lost(lane->side, &lane->state, lane->offered, lane->running); }
+
+static inline uint8_t tryphomel_lane_receive(tryphomel_lane *lane, const void *bytes, size_t size, void *out, size_t room, tryphomel_received *to) {
+    return to->refusal = tryphomel_receive(lane->side, &lane->state, lane->offered, lane->running, (const uint8_t *)bytes, size, (uint8_t *)out, room,
+                                           (uint64_t *)&to->message, to->message.id, &to->order, &to->used, &to->written, &to->place);
+}
+
+static inline uint8_t tryphomel_lane_send(tryphomel_lane *lane, const tryphomel_message *message, const void *texts, size_t size, void *out, size_t room,
+                                          tryphomel_sent *to) {
+    return to->refusal = tryphomel_send(lane->side, &lane->state, lane->offered, lane->running, (const uint64_t *)message, message->id,
+                                        (const uint8_t *)texts, size, (uint8_t *)out, room, &to->order, &to->written);
+}
+
+static inline uint8_t tryphomel_message_check(const void *bytes, size_t size, tryphomel_checked *to) {
+    return to->refusal = tryphomel_check((const uint8_t *)bytes, size, (uint64_t *)&to->message, to->message.id, &to->start, &to->end, &to->place);
+}
+
+/* The text of a received value: `*text` points into the bytes or the scratch, and is a null pointer if the text is refused. */
+static inline uint8_t tryphomel_words_text(tryphomel_words words, const void *bytes, size_t size, void *scratch, size_t room, const uint8_t **text,
+                                           uint64_t *count) {
+    uint64_t place, at;
+    uint8_t refusal = tryphomel_text((const uint8_t *)bytes, size, words.there != 0, words.start, words.len, (uint8_t *)scratch, room, &place, &at, count);
+    *text = place == TRYPHOMEL_IN_BYTES ? (const uint8_t *)bytes + at : place == TRYPHOMEL_IN_SCRATCH ? (const uint8_t *)scratch : NULL;
+    return refusal;
+}
+
+/* Values of a message to be sent: a number, and a text that stands in the texts. */
+static inline tryphomel_number tryphomel_is(uint64_t value) {
+    tryphomel_number n;
+    n.there = 1;
+    n.value = value;
+    return n;
+}
+
+static inline tryphomel_words tryphomel_part(uint64_t start, uint64_t len) {
+    tryphomel_words w;
+    w.there = 1;
+    w.start = start;
+    w.len = len;
+    return w;
+}
+
+#endif
