@@ -14,8 +14,8 @@
 #include <string>
 #include <vector>
 
-extern "C" uint8_t tryphomel_read(const uint8_t *bytes, size_t length, uint64_t *start, uint64_t *place);
-extern "C" uint8_t tryphomel_check(const uint8_t *bytes, size_t length, uint64_t numbers[65], uint8_t id[36], uint64_t *start, uint64_t *end, uint64_t *place);
+#include "../include/tryphomel.h"
+#include "values.hpp"
 
 namespace {
 
@@ -126,67 +126,6 @@ struct Board {
     unsigned there;
     bool bad;
 };
-
-bool is_blank(char c) { return c == ' ' || c == '\t' || c == '\r' || c == '\n'; }
-
-void trim(const char *&a, const char *&e) {
-    while (a < e && is_blank(*a)) a++;
-    while (a < e && is_blank(e[-1])) e--;
-}
-
-bool to_int(const char *a, const char *e, unsigned lo, unsigned hi, unsigned &out) {
-    trim(a, e);
-    bool minus = a < e && *a == '-';
-    if (a < e && (*a == '-' || *a == '+')) a++;
-    if (a == e) return false;
-    unsigned n = 0;
-    for (; a < e; a++) {
-        if (*a < '0' || *a > '9') return false;
-        n = n > 65535 ? n : n * 10 + (unsigned)(*a - '0');
-    }
-    out = n;
-    return n >= lo && n <= hi && !(minus && n);
-}
-
-bool to_millionths(const char *a, const char *e, uint64_t &out) {
-    trim(a, e);
-    if (a < e && *a == '+') a++;
-    uint64_t n = 0;
-    unsigned digits = 0, scale = 0;
-    bool point = false;
-    for (; a < e; a++) {
-        if (*a == '.') {
-            if (point) return false;
-            point = true;
-            continue;
-        }
-        if (*a < '0' || *a > '9') return false;
-        digits++;
-        if (point) {
-            if (scale == 6) {
-                if (*a != '0') return false;
-                continue;
-            }
-            scale++;
-        } else if (n > 999999) {
-            return false;
-        }
-        n = n * 10 + (uint64_t)(*a - '0');
-    }
-    for (; scale < 6; scale++) n *= 10;
-    out = n;
-    return digits && n;
-}
-
-bool to_guid(const char *a, size_t n, char *out) {
-    if (n != 36) return false;
-    for (size_t i = 0; i < 36; i++) {
-        bool hyphen = i == 8 || i == 13 || i == 18 || i == 23;
-        if (hyphen ? a[i] != '-' : !((a[i] >= '0' && a[i] <= '9') || (a[i] >= 'a' && a[i] <= 'f'))) return false;
-    }
-    memcpy(out, a, 36);
-    return true;
-}
 
 struct Name {
     const char *text;
@@ -371,12 +310,11 @@ double ours_checked(const Stream &s, Sum &sum) {
                size_t at = 0;
                sum = Sum();
                while (at < run.size()) {
-                   uint64_t numbers[65], start, end, place;
-                   uint8_t id[36];
-                   uint8_t refusal = tryphomel_check((const uint8_t *)run.data() + at, run.size() - at, numbers, id, &start, &end, &place);
-                   if (refusal != 0 || numbers[0] != 3) return false;
-                   sum.add(true, numbers[37], numbers[24]);
-                   at += end;
+                   tryphomel_checked c;
+                   if (tryphomel_message_check(run.data() + at, run.size() - at, &c) != TRYPHOMEL_ACCEPTED) return false;
+                   if (c.message.kind != TRYPHOMEL_BOARD_AVAILABLE) return false;
+                   sum.add(true, c.message.board.length.value, c.message.board.failed.value);
+                   at += c.end;
                }
                return sum.accepted == s.size();
            });

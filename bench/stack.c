@@ -1,0 +1,132 @@
+/* The stack that each call uses, measured: the call runs on a stack that is filled with a pattern, over messages that nest, repeat and fill
+ * as far as the limits let them. Prints the most bytes that a call changed, of all inputs. */
+#define _XOPEN_SOURCE 700
+#include <stdio.h>
+#include <string.h>
+#include <ucontext.h>
+
+#include "../include/tryphomel.h"
+
+enum { STACK = 1 << 20, ROOM = 70000 };
+
+static unsigned char stack[STACK];
+static char in[ROOM];
+static uint8_t out[TRYPHOMEL_SEND_ROOM];
+static size_t size;
+static ucontext_t here, there;
+static tryphomel_lane lane;
+static tryphomel_message message;
+static tryphomel_checked checked;
+static tryphomel_received received;
+static tryphomel_sent sent;
+
+static size_t used_by(void (*call)(void)) {
+    size_t free_bytes = 0;
+    memset(stack, 0xa5, sizeof stack);
+    getcontext(&there);
+    there.uc_stack.ss_sp = stack;
+    there.uc_stack.ss_size = sizeof stack;
+    there.uc_link = &here;
+    makecontext(&there, call, 0);
+    swapcontext(&here, &there);
+    while (free_bytes < sizeof stack && stack[free_bytes] == 0xa5) free_bytes++;
+    return sizeof stack - free_bytes;
+}
+
+static void nothing(void) {}
+static void reads(void) {
+    uint64_t start, place;
+    tryphomel_read((const uint8_t *)in, size, &start, &place);
+}
+static void checks(void) { tryphomel_message_check(in, size, &checked); }
+static void receives(void) { tryphomel_lane_receive(&lane, in, size, out, sizeof out, &received); }
+static void sends(void) { tryphomel_lane_send(&lane, &message, in, size, out, sizeof out, &sent); }
+static void asks(void) {
+    uint64_t place, at, count;
+    tryphomel_text((const uint8_t *)in, size, 1, 0, size, out, sizeof out, &place, &at, &count);
+}
+
+static void add(const char *s) {
+    strcpy(in + size, s);
+    size += strlen(s);
+}
+
+static void times(int n, const char *s) {
+    while (n-- > 0) add(s);
+}
+
+static void element(const char *opened, int n, const char *each, const char *closed) {
+    size = 0;
+    add(opened);
+    times(n, each);
+    add(closed);
+}
+
+static void input(int which) {
+    const char *board = "<Hermes><BoardAvailable BoardId='5d10d8c0-8c0a-4d5e-9f2b-0123456789ab' BoardIdCreatedBy='m' FailedBoard='0' ProductTypeId='";
+    switch (which) {
+        case 0: element("<Hermes><a><b><c><d>", 1, "<e/>", "</d></c></b></a></Hermes>"); break;
+        case 1: element("<Hermes>", 100, "<a>", ""); break;
+        case 2: element("<Hermes><a>", 13000, "<b/>", "</a></Hermes>"); break;
+        case 3: element("<Hermes><a>", 6000, "<b></b>", "</a></Hermes>"); break;
+        case 4: element(board, 254, "&#x10FFFF;", "' FlippedBoard='0' Length='0000160.5000' WorkOrderId='w'/></Hermes>"); break;
+        case 5: element(board, 5000, "&#x10FFFF;", "' FlippedBoard='0'/></Hermes>"); break;
+        case 6: element("<Hermes><CheckAlive Type='1' Id='", 80, "&quot;", "'/></Hermes>"); break;
+        case 7: element("<Hermes><ServiceDescription MachineId='m' LaneId='1' Version='1.6'><SupportedFeatures>", 2000, "<FeatureSendBoardInfo/>",
+                        "</SupportedFeatures></ServiceDescription></Hermes>"); break;
+        case 8: element("<?xml version='1.0' encoding='utf-8'?><Hermes><a", 1, " a='' b='' c='' d='' e='' f='' g='' h='' i='' j='' k='' l='' m='' n=''",
+                        " o='' p='' q='' r='' s='' t='' u='' v='' w='' x='' y='' z='' A='' B='' C='' D='' E='' F=''/></Hermes>"); break;
+        case 9: element("<Hermes><a b='", 65600, "v", ""); break;
+        default: element("", ROOM - 10, " ", ""); break;
+    }
+}
+
+static void most(const char *name, void (*call)(void), size_t idle) {
+    size_t bytes = 0;
+    for (int which = 0; which <= 10; which++) {
+        input(which);
+        for (int state = 0; state <= TRYPHOMEL_FINISHED; state++) {
+            memset(&lane, 0, sizeof lane);
+            lane.side = TRYPHOMEL_DOWNSTREAM;
+            lane.state = (uint8_t)state;
+            size_t n = used_by(call) - idle;
+            if (n > bytes) bytes = n;
+        }
+    }
+    printf("  %-18s %6zu bytes\n", name, bytes);
+}
+
+static void most_sent(size_t idle) {
+    size_t bytes = 0;
+    element("", TRYPHOMEL_LONG_TEXT, "\"", "1.6");
+    for (int kind = 0; kind <= TRYPHOMEL_CHECK_ALIVE; kind++)
+        for (int side = TRYPHOMEL_UPSTREAM; side <= TRYPHOMEL_DOWNSTREAM; side++)
+            for (int state = 0; state <= TRYPHOMEL_FINISHED; state++) {
+                uint64_t *numbers = (uint64_t *)&message;
+                for (int i = 0; i < TRYPHOMEL_NUMBERS; i++) numbers[i] = 1;
+                message.kind = (uint64_t)kind;
+                message.board.by = message.board.order = message.service.machine = message.alive.id = tryphomel_part(0, TRYPHOMEL_SHORT_TEXT);
+                message.board.product = message.board.top = message.board.bottom = message.notification.description = tryphomel_part(0, TRYPHOMEL_LONG_TEXT);
+                message.service.version = tryphomel_part(TRYPHOMEL_LONG_TEXT, 3);
+                memcpy(message.id, "5d10d8c0-8c0a-4d5e-9f2b-0123456789ab", sizeof message.id);
+                memset(&lane, 0, sizeof lane);
+                lane.side = (uint8_t)side;
+                lane.state = (uint8_t)state;
+                memcpy(lane.offered, message.id, sizeof lane.offered);
+                memcpy(lane.running, message.id, sizeof lane.running);
+                size_t n = used_by(sends) - idle;
+                if (n > bytes) bytes = n;
+            }
+    printf("  %-18s %6zu bytes\n", "tryphomel_send", bytes);
+}
+
+int main(void) {
+    size_t idle = used_by(nothing);
+    printf("stack of a call, at most\n");
+    most("tryphomel_read", reads, idle);
+    most("tryphomel_check", checks, idle);
+    most("tryphomel_receive", receives, idle);
+    most_sent(idle);
+    most("tryphomel_text", asks, idle);
+    return 0;
+}
