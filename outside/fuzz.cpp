@@ -1,89 +1,10 @@
 // Fuzzes the calls for C with libFuzzer: no byte outside what is lent is touched, and each answer keeps to its numbers.
 // The library carries no address checks of its own. So what a call is lent lies against a page that nobody may touch, once against the page
 // behind it and once against the page before it: one byte too far is a crash. Bytes on the free side are compared afterwards.
-// The last bytes of an input are dials: which span is asked for, how long the scratch is, how far the message is stretched.
-#include <sys/mman.h>
-#include <unistd.h>
-
-#include <algorithm>
-#include <cstdint>
-#include <cstdio>
-#include <cstdlib>
-#include <cstring>
-#include <string>
-
-#include "../include/tryphomel.h"
+// The last bytes of an input are dials: which span is asked for, how long the buffers are, how far the message is stretched, and the lane record.
+#include "lanes.hpp"
 
 namespace {
-
-const size_t LIMIT = 65536;
-
-void expect(bool good, const char *what) {
-    if (good) return;
-    fprintf(stderr, "does not hold: %s\n", what);
-    abort();
-}
-
-// Memory between two pages that nobody may touch. What is not lent is filled, and looked at again.
-class Fence {
-   public:
-    Fence() : page((size_t)sysconf(_SC_PAGESIZE)), size(1 << 18) {
-        void *all = mmap(nullptr, size + 2 * page, PROT_NONE, MAP_PRIVATE | MAP_ANONYMOUS, -1, 0);
-        expect(all != MAP_FAILED, "there is memory");
-        base = (uint8_t *)all + page;
-        expect(mprotect(base, size, PROT_READ | PROT_WRITE) == 0, "memory can be used");
-    }
-
-    // Room for n bytes, against the page behind them or the page before them.
-    uint8_t *lend(size_t n, bool high) {
-        lent = high ? base + size - n : base;
-        count = n;
-        memset(side(), FILL, SIDE);
-        return lent;
-    }
-
-    bool side_kept() { return std::all_of(side(), side() + SIDE, [](uint8_t b) { return b == FILL; }); }
-
-   private:
-    static const size_t SIDE = 256;
-    static const uint8_t FILL = 0xa5;
-    size_t page, size, count = 0;
-    uint8_t *base = nullptr, *lent = nullptr;
-    uint8_t *side() { return lent == base ? lent + count : lent - SIDE; }
-};
-
-// What the last bytes of an input choose.
-struct Dials {
-    uint8_t there, stretch, flags;
-    uint64_t start, length;
-    size_t room;
-};
-
-Dials take_dials(const uint8_t *data, size_t &size) {
-    uint8_t d[12] = {0};
-    size_t n = std::min(size, sizeof d);
-    size -= n;
-    memcpy(d, data + size, n);
-    Dials x{d[0], d[1], d[2], (uint64_t)(d[3] | d[4] << 8), (uint64_t)(d[5] | d[6] << 8), (size_t)(d[7] | d[8] << 8)};
-    if (x.flags & 1) x.start = UINT64_MAX - x.start;
-    if (x.flags & 2) x.length = UINT64_MAX - x.length;
-    if (x.flags & 4) x.room %= 8;
-    if ((x.flags & 8) && size) x.start %= size + 2, x.length %= size + 2;
-    return x;
-}
-
-// The input, sometimes stretched by glue to sizes around the limit.
-std::string stretched(const uint8_t *data, size_t size, const Dials &d) {
-    std::string s((const char *)data, size);
-    size_t at = s.find('>');
-    if (d.stretch % 16 == 1 && at != std::string::npos && size < LIMIT) s.insert(at + 1, LIMIT - 4 - size + d.stretch / 16, ' ');
-    return s;
-}
-
-struct Read {
-    unsigned answer;
-    uint64_t start, place;
-};
 
 Read on_read(const uint8_t *bytes, size_t n) {
     Read r{9, UINT64_MAX, UINT64_MAX};
@@ -140,14 +61,13 @@ void on_values(const uint8_t *bytes, size_t n, const Dials &d, const Read &r, bo
     }
 }
 
-// A further call is added here: a function like on_text, and a line in all_calls. A call with a lane record, an input and an out buffer takes the
-// record from Dials (its bytes as they come, impossible numbers too), the input from `bytes`, and the out buffer from a Fence of its own, as on_text
-// takes its scratch.
 void all_calls(const uint8_t *bytes, size_t n, const Dials &d, bool high) {
     Read r = on_read(bytes, n);
     on_check(bytes, n, r);
     on_text(bytes, n, d, d.start, d.length, high);
     if (r.answer == 0) on_values(bytes, n, d, r, high);
+    on_receive(bytes, n, d, r, high);
+    on_send(bytes, n, d, high);
 }
 
 }  // namespace
