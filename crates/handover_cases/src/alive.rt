@@ -14,8 +14,7 @@ use lane::Lane;
 use lane::Side;
 use lane::State;
 
-// A CheckAlive is replied to in NotConnected and in Transporting.
-fn checks(lane: Lane) {
+fn replied(lane: Lane) {
     receive(
         lane,
         b"CheckAlive, Type 1",
@@ -36,6 +35,9 @@ fn checks(lane: Lane) {
         b"CheckAlive, Type 1, Id with references",
         b"<Hermes><CheckAlive Type='1' Id='a>&#65;&amp;\"&lt;&#x9;&apos;\r\n&#13;&#x20AC;\xC3\xB6'/></Hermes>",
     );
+}
+
+fn not_replied(lane: Lane) {
     receive(
         lane,
         b"CheckAlive, Type 2",
@@ -95,9 +97,11 @@ fn rooms(lane: Lane) {
 /// Both sides alive, the replies, and the room for them.
 pub fn alives(idle: Pair) {
     title(b"6 CheckAlive and Notification in NotConnected");
-    checks(up(State::NOT_CONNECTED));
+    replied(up(State::NOT_CONNECTED));
+    not_replied(up(State::NOT_CONNECTED));
     title(b"6 CheckAlive and Notification in Transporting");
-    checks(down(State::TRANSPORTING));
+    replied(down(State::TRANSPORTING));
+    not_replied(down(State::TRANSPORTING));
     title(b"6 the room for a reply");
     rooms(up(State::NOT_CONNECTED));
     rooms(up(State::TRANSPORTING));

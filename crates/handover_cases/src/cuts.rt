@@ -43,10 +43,7 @@ fn two(lane: Lane, first: &[u8], second: &[u8], s: &[u8]) {
     next(lane, b"what is left", s, at);
 }
 
-pub fn cuts(idle: Pair) {
-    let lower = idle.down;
-    let upper = idle.up;
-    title(b"3 a closing tag inside a message, and another message behind it");
+fn first_cuts(lower: Lane) {
     two(
         lower,
         b"an unknown message with Hermes inside",
@@ -59,6 +56,9 @@ pub fn cuts(idle: Pair) {
         b"RevokeBoardAvailable",
         b"<Hermes><BoardAvailable BoardId='01234567-89ab-cdef-0123-456789abcdef' BoardIdCreatedBy='M' FailedBoard='1' FlippedBoard='0'><Hermes></Hermes ></BoardAvailable></Hermes\t>\r\n<Hermes><RevokeBoardAvailable></RevokeBoardAvailable></Hermes>",
     );
+}
+
+fn more_cuts(upper: Lane) {
     two(
         upper,
         b"MachineReady with the tag in a value",
@@ -71,6 +71,14 @@ pub fn cuts(idle: Pair) {
         b"the beginning of StartTransport",
         b"<Hermes><MachineReady FailedBoard=\"0\"/></Hermes><Hermes><StartTransport BoardId=\"01234567-89ab-cdef-0123-456789abc",
     );
+}
+
+pub fn cuts(idle: Pair) {
+    title(b"3 a closing tag inside a message, and another message behind it");
+    let lower = idle.down;
+    first_cuts(lower);
+    let upper = idle.up;
+    more_cuts(upper);
 }
 
 // Receives the first bytes only.

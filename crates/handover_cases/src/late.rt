@@ -1,74 +1,74 @@
 // Scene 3, third and fourth cause: a start behind a revoke, and a stop for another board.
 use crate::calls::Pair;
 use crate::calls::ROOM;
+use crate::calls::Step;
 use crate::calls::arrive;
 use crate::calls::receive;
-use crate::calls::send;
 use crate::calls::send_to;
-use crate::calls::upwards;
+use crate::ours::send_transfer;
 use crate::parts::A;
 use crate::parts::C;
 use crate::parts::down;
-use crate::parts::id;
-use crate::parts::start;
-use crate::parts::transfer;
 use crate::parts::up;
-use crate::parts::whole;
 use crate::plays::both;
 use crate::plays::finish;
 use crate::plays::moving;
+use crate::plays::run;
 use crate::plays::stop;
 use crate::show::title;
 use lane::Kind;
 use lane::Lane;
 use lane::State;
-use message::values::Measure;
 
-// In Both: the revoke and the start cross on their way.
-fn cross(p: Pair) -> Pair {
-    let mut below = [b'~'; ROOM];
-    let mut above = [b'~'; ROOM];
-    let revoke = message::blank(Kind::REVOKE_BOARD_AVAILABLE);
-    let begin = start(id(A), Measure::Absent);
+fn revoke(lane: Lane, out: &mut [u8]) -> Step {
+    send_to(lane, message::blank(Kind::REVOKE_BOARD_AVAILABLE), b"", out)
+}
+
+fn revoke_arrives(lane: Lane, wire: &[u8], len: usize) -> Lane {
+    arrive(
+        lane,
+        message::blank(Kind::REVOKE_BOARD_AVAILABLE),
+        wire,
+        len,
+    )
+}
+
+// In Both: the start is sent before the revoke arrives, and the stop too if it is `early`.
+fn cross(p: Pair, early: bool) -> Pair {
+    let mut wire = [b'~'; ROOM];
     let up = p.up;
     let down = p.down;
-    let u = send_to(up, revoke, b"", &mut below);
-    let d = send_to(down, begin, b"", &mut above);
-    let up = u.lane;
-    let down = d.lane;
-    let up = arrive(up, begin, &above, d.count);
-    let down = arrive(down, revoke, &below, u.count);
+    let sent = revoke(up, &mut wire);
+    let up = sent.lane;
+    let p = begin(Pair { up, down }, early);
+    let up = p.up;
+    let down = p.down;
+    let down = revoke_arrives(down, &wire, sent.count);
     Pair { up, down }
 }
 
-// In Both: the start and the stop are sent before the revoke arrives.
-fn cross_late(p: Pair) -> Pair {
-    let mut below = [b'~'; ROOM];
-    let revoke = message::blank(Kind::REVOKE_BOARD_AVAILABLE);
-    let begin = start(id(A), Measure::Absent);
-    let end = transfer(Kind::STOP_TRANSPORT, whole(1), id(A));
-    let up = p.up;
-    let down = p.down;
-    let u = send_to(up, revoke, b"", &mut below);
-    let up = u.lane;
-    let p = upwards(Pair { up, down }, begin, b"");
-    let p = upwards(p, end, b"");
-    let up = p.up;
-    let down = p.down;
-    let down = arrive(down, revoke, &below, u.count);
-    Pair { up, down }
+fn begin(p: Pair, early: bool) -> Pair {
+    let p = run(p, A);
+    if early {
+        return stop(p, A);
+    }
+    p
 }
 
 pub fn late(idle: Pair) {
     title(b"3 the offer is revoked while the start is on its way");
     let p = both(idle, A);
-    let p = cross(p);
+    let p = cross(p, false);
     let p = finish(p, A);
     let p = stop(p, A);
     title(b"3 the revoke arrives when the belt has stopped");
     let p = both(p, A);
-    let p = cross_late(p);
+    let p = cross(p, true);
     finish(p, A);
+}
+
+/// A start or a revoke in other states than those that a handover leads to.
+pub fn elsewhere() {
     title(b"3 a start or a revoke where none can be");
     begins(up(State::IDLE));
     begins(up(State::OFFERED));
@@ -101,24 +101,14 @@ pub fn another(idle: Pair) {
     title(b"3 a stop for another board");
     let p = moving(idle, A);
     let lower = p.down;
-    send(
-        lower,
-        b"StopTransport C",
-        transfer(Kind::STOP_TRANSPORT, whole(3), id(C)),
-        b"",
-    );
-    let up = p.up;
-    let up = stopped_other(up);
-    let up = stopped(up);
-    receive(
-        up,
-        b"TransportFinished A from the wrong side",
-        b"<Hermes><TransportFinished TransferState=\"3\" BoardId=\"01234567-89ab-cdef-0123-456789abcdef\"/></Hermes>",
-    );
+    send_transfer(lower, b"StopTransport C", Kind::STOP_TRANSPORT, C);
+    let upper = p.up;
+    let upper = stopped_other(upper);
+    stopped(upper);
     title(b"3 a stop for another board behind finished, and an end for another board");
     let p = finish(p, A);
-    let up = p.up;
-    stopped_other(up);
+    let upper = p.up;
+    stopped_other(upper);
     ended_other(lower);
     ended_other(down(State::STOPPED));
     ended_other(down(State::FINISHED));

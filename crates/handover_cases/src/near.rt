@@ -1,11 +1,10 @@
 // Scene 3, second cause: ids that are nearly right, and ids that are right but spelt with references.
 use crate::calls::Pair;
+use crate::calls::ROOM;
 use crate::calls::receive;
-use crate::calls::send;
+use crate::ours::send_ready;
+use crate::ours::send_start;
 use crate::parts::A;
-use crate::parts::id;
-use crate::parts::ready;
-use crate::parts::start;
 use crate::parts::whole;
 use crate::plays::both;
 use crate::plays::run;
@@ -121,11 +120,6 @@ fn offers(idle: Lane) {
         b"BoardAvailable, A in references",
         b"<Hermes><BoardAvailable BoardId=\"01234567-89ab-cdef-0123&#45;456789abcdef\" BoardIdCreatedBy=\"M\" FailedBoard=\"0\" FlippedBoard=\"0\"/></Hermes>",
     );
-    let lane = send(lane, b"MachineReady", ready(whole(0)), b"");
-    send(
-        lane,
-        b"StartTransport A",
-        start(id(A), Measure::Absent),
-        b"",
-    );
+    let lane = send_ready(lane, b"MachineReady", whole(0), ROOM);
+    send_start(lane, b"StartTransport A", A, Measure::Absent, ROOM);
 }

@@ -1,17 +1,16 @@
 // Scene 7: records that the library never writes.
+use crate::calls::ROOM;
 use crate::calls::receive;
 use crate::calls::receive_in;
-use crate::calls::send;
-use crate::calls::send_in;
+use crate::ours::send_alive;
+use crate::ours::send_blank;
+use crate::ours::send_board;
+use crate::ours::send_ready;
+use crate::ours::send_start;
 use crate::parts::A;
 use crate::parts::B;
 use crate::parts::C;
 use crate::parts::X;
-use crate::parts::alive;
-use crate::parts::board;
-use crate::parts::id;
-use crate::parts::ready;
-use crate::parts::start;
 use crate::parts::whole;
 use crate::show::title;
 use lane::Lane;
@@ -52,8 +51,8 @@ fn any_state(lane: Lane) {
     receive(lane, b"an unknown message", b"<Hermes><X/></Hermes>");
     receive_in(lane, b"a wrong byte, no room", b"?", 97);
     receive(lane, b"a wrong byte", b"?");
-    send(lane, b"CheckAlive", alive(whole(1), Words::Absent), b"");
-    send(lane, b"kind 0", message::blank(0), b"");
+    send_alive(lane, b"CheckAlive", Words::Absent, b"");
+    send_blank(lane, b"kind 0", 0);
 }
 
 // Chart messages of both sides.
@@ -73,9 +72,9 @@ fn chart(lane: Lane) {
         b"StopTransport A",
         b"<Hermes><StopTransport TransferState=\"3\" BoardId=\"01234567-89ab-cdef-0123-456789abcdef\"/></Hermes>",
     );
-    send(lane, b"BoardAvailable A", board(id(A), whole(0), 0), b"M");
-    send(lane, b"MachineReady", ready(whole(0)), b"");
-    send_in(lane, b"MachineReady, no room", ready(whole(0)), b"", 47);
+    send_board(lane, b"BoardAvailable A", 0, b"M", ROOM);
+    send_ready(lane, b"MachineReady", whole(0), ROOM);
+    send_ready(lane, b"MachineReady, no room", whole(0), 47);
 }
 
 pub fn numbers() {
@@ -100,6 +99,9 @@ pub fn ids() {
     chart(full(Side::UPSTREAM, State::OFFERED, B, X));
     chart(full(Side::UPSTREAM, State::TRANSPORTING, B, A));
     chart(full(Side::UPSTREAM, State::TRANSPORTING, A, B));
+}
+
+pub fn no_guid() {
     title(b"7 an offered id that is no GUID");
     let both = full(Side::UPSTREAM, State::BOTH, X, A);
     let lane = receive(
@@ -109,10 +111,5 @@ pub fn ids() {
     );
     chart(lane);
     let both = full(Side::DOWNSTREAM, State::BOTH, X, X);
-    send(
-        both,
-        b"StartTransport A",
-        start(id(A), Measure::Absent),
-        b"",
-    );
+    send_start(both, b"StartTransport A", A, Measure::Absent, ROOM);
 }

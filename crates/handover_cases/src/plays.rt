@@ -24,10 +24,18 @@ pub fn connect() -> Pair {
 
 /// From NotConnected to Idle.
 pub fn describe(p: Pair) -> Pair {
-    let lower = service(text(0, 9), whole(1), text(9, 3), features(true));
-    let p = upwards(p, lower, b"Oven \"<2>1.6");
-    let upper = service(text(0, 7), whole(65535), text(7, 3), features(true));
-    downwards(p, upper, b"Printer1.5")
+    let p = describe_lower(p);
+    describe_upper(p)
+}
+
+fn describe_lower(p: Pair) -> Pair {
+    let m = service(text(0, 9), whole(1), text(9, 3), features(true));
+    upwards(p, m, b"Oven \"<2>1.6")
+}
+
+fn describe_upper(p: Pair) -> Pair {
+    let m = service(text(0, 7), whole(65535), text(7, 3), features(true));
+    downwards(p, m, b"Printer1.5")
 }
 
 pub fn offer(p: Pair, bytes: [u8; 36]) -> Pair {

@@ -68,7 +68,7 @@ pub fn table() {
     );
 }
 
-/// What decides first, and that order 3 comes once.
+/// What decides first.
 pub fn precedence() {
     title(b"4 the first refusal decides");
     receive(
@@ -92,6 +92,9 @@ pub fn precedence() {
         b"<Hermes><MachineReady FailedBoard=\"0\"/></Hermes>",
         0,
     );
+}
+
+pub fn once() {
     title(b"4 order 3 comes once");
     let lane = receive(
         down(State::FINISHED),

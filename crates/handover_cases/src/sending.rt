@@ -1,20 +1,18 @@
 // Scene 5: every refusal of sending; record and buffer are kept.
-use crate::calls::send;
-use crate::calls::send_in;
+use crate::calls::ROOM;
+use crate::ours::send_alive;
+use crate::ours::send_blank;
+use crate::ours::send_board;
+use crate::ours::send_notification;
+use crate::ours::send_ready;
+use crate::ours::send_service;
+use crate::ours::send_start;
+use crate::ours::send_transfer;
 use crate::parts::A;
 use crate::parts::B;
 use crate::parts::X;
-use crate::parts::alive;
-use crate::parts::board;
 use crate::parts::down;
-use crate::parts::features;
-use crate::parts::id;
-use crate::parts::notification;
-use crate::parts::ready;
-use crate::parts::service;
-use crate::parts::start;
 use crate::parts::text;
-use crate::parts::transfer;
 use crate::parts::up;
 use crate::parts::whole;
 use crate::show::title;
@@ -26,186 +24,152 @@ use value::Words;
 
 pub fn missing() {
     title(b"5 missing attribute");
-    send(
+    send_ready(
         down(State::IDLE),
         b"MachineReady without FailedBoard",
-        ready(Whole::Absent),
-        b"",
+        Whole::Absent,
+        ROOM,
     );
-    send(
+    send_service(
         down(State::NOT_CONNECTED),
         b"ServiceDescription without SupportedFeatures",
-        service(text(0, 1), whole(1), text(1, 3), features(false)),
-        b"M1.6",
+        false,
     );
-    send(
+    send_blank(
         down(State::BOTH),
         b"StartTransport without BoardId",
-        message::blank(Kind::START_TRANSPORT),
-        b"",
+        Kind::START_TRANSPORT,
     );
+}
+
+pub fn too_long() {
     title(b"5 text too long");
-    send(
+    send_alive(
         up(State::IDLE),
         b"CheckAlive with an Id of 81 bytes",
-        alive(Whole::Absent, text(0, 81)),
+        text(0, 81),
         &[b'x'; 81],
     );
-    send(
+    send_notification(
         up(State::TRANSPORTING),
         b"Notification with a Description of 255 bytes",
-        notification(whole(1), whole(1), text(0, 255)),
-        b"",
+        255,
     );
 }
 
 pub fn bad() {
     title(b"5 bad value");
-    send(
+    send_start(
         down(State::BOTH),
         b"StartTransport with an id that is no GUID",
-        start(id(X), Measure::Absent),
-        b"",
+        X,
+        Measure::Absent,
+        ROOM,
     );
-    send(
+    send_ready(
         down(State::IDLE),
         b"MachineReady with FailedBoard 3",
-        ready(whole(3)),
-        b"",
+        whole(3),
+        ROOM,
     );
-    send(
+    send_board(
         up(State::READY),
         b"BoardAvailable with a text outside",
-        board(id(A), whole(0), 4),
+        4,
         b"M123",
+        ROOM,
     );
-    send(
+    send_board(
         up(State::READY),
         b"BoardAvailable with a text that is no UTF-8",
-        board(id(A), whole(0), 2),
+        2,
         b"M\xC3(",
+        ROOM,
     );
+}
+
+pub fn table_first() {
     title(b"5 the table decides before the chart and the room");
-    send(
+    send_ready(
         up(State::TRANSPORTING),
         b"MachineReady without FailedBoard, U",
-        ready(Whole::Absent),
-        b"",
+        Whole::Absent,
+        ROOM,
     );
-    send_in(
+    send_start(
         down(State::READY),
         b"StartTransport with speed 0, no room",
-        start(id(A), Measure::Present(0)),
-        b"",
+        A,
+        Measure::Present(0),
         0,
     );
 }
 
-pub fn may_not() {
+pub fn wrong_state() {
     title(b"5 may not be sent: the wrong state");
-    send(
-        down(State::READY),
-        b"MachineReady in Ready",
-        ready(whole(0)),
-        b"",
-    );
-    send(
-        up(State::NOT_CONNECTED),
-        b"BoardAvailable in NotConnected",
-        board(id(A), whole(0), 0),
-        b"M",
-    );
-    send(
-        up(State::NOT_CONNECTED),
-        b"ServiceDescription in NotConnected",
-        service(text(0, 1), whole(1), text(1, 3), features(true)),
-        b"M1.6",
-    );
-    send(
-        up(State::IDLE),
-        b"ServiceDescription in Idle",
-        service(text(0, 1), whole(1), text(1, 3), features(true)),
-        b"M1.6",
-    );
-    send(
+    send_ready(down(State::READY), b"MachineReady", whole(0), ROOM);
+    send_board(up(State::NOT_CONNECTED), b"BoardAvailable A", 0, b"M", ROOM);
+    send_service(up(State::NOT_CONNECTED), b"ServiceDescription", true);
+    send_service(up(State::IDLE), b"ServiceDescription", true);
+    send_blank(
         up(State::TRANSPORTING),
-        b"RevokeBoardAvailable in Transporting",
-        message::blank(Kind::REVOKE_BOARD_AVAILABLE),
-        b"",
+        b"RevokeBoardAvailable",
+        Kind::REVOKE_BOARD_AVAILABLE,
     );
-    send(
+    send_start(
         down(State::READY),
-        b"StartTransport A in Ready",
-        start(id(A), Measure::Absent),
-        b"",
+        b"StartTransport A",
+        A,
+        Measure::Absent,
+        ROOM,
     );
 }
 
-pub fn may_not_either() {
-    title(b"5 may not be sent: the wrong side, kind or board");
-    send(
-        down(State::IDLE),
-        b"BoardAvailable from D",
-        board(id(A), whole(0), 0),
-        b"M",
-    );
-    send(
-        up(State::IDLE),
-        b"MachineReady from U",
-        ready(whole(0)),
-        b"",
-    );
-    send(up(State::IDLE), b"kind 0", message::blank(0), b"");
-    send(up(State::IDLE), b"kind 11", message::blank(11), b"");
-    send(
+pub fn wrong_side() {
+    title(b"5 may not be sent: the wrong side or kind");
+    send_board(down(State::IDLE), b"BoardAvailable A", 0, b"M", ROOM);
+    send_ready(up(State::IDLE), b"MachineReady", whole(0), ROOM);
+    send_ready(up(State::IDLE), b"MachineReady, no room", whole(0), 0);
+    send_blank(up(State::IDLE), b"kind 0", 0);
+    send_blank(up(State::IDLE), b"kind 11", 11);
+}
+
+pub fn wrong_board() {
+    title(b"5 may not be sent: another board");
+    send_start(
         down(State::BOTH),
         b"StartTransport B",
-        start(id(B), Measure::Absent),
-        b"",
+        B,
+        Measure::Absent,
+        ROOM,
     );
-    send(
+    send_transfer(
         down(State::TRANSPORTING),
         b"StopTransport B",
-        transfer(Kind::STOP_TRANSPORT, whole(3), id(B)),
-        b"",
+        Kind::STOP_TRANSPORT,
+        B,
     );
-    send(
+    send_transfer(
         up(State::STOPPED),
         b"TransportFinished B",
-        transfer(Kind::TRANSPORT_FINISHED, whole(3), id(B)),
-        b"",
+        Kind::TRANSPORT_FINISHED,
+        B,
     );
 }
 
 pub fn no_room() {
     title(b"5 no room, and with room");
-    send_in(
-        up(State::IDLE),
-        b"MachineReady from U",
-        ready(whole(0)),
-        b"",
-        0,
-    );
-    let m = ready(whole(0));
-    let lane = send_in(down(State::OFFERED), b"MachineReady", m, b"", 47);
-    let lane = send_in(lane, b"MachineReady", m, b"", 48);
-    let m = start(id(A), Measure::Present(500000));
-    let lane = send_in(lane, b"StartTransport A", m, b"", 100);
-    send_in(lane, b"StartTransport A", m, b"", 101);
-    let m = board(id(A), whole(0), 1);
-    send_in(up(State::READY), b"BoardAvailable A", m, b"M>", 170);
-    send_in(up(State::READY), b"BoardAvailable A", m, b"M>", 171);
+    let lane = send_ready(down(State::OFFERED), b"MachineReady", whole(0), 47);
+    let lane = send_ready(lane, b"MachineReady", whole(0), 48);
+    let speed = Measure::Present(500000);
+    let lane = send_start(lane, b"StartTransport A", A, speed, 100);
+    send_start(lane, b"StartTransport A", A, speed, 101);
+    send_board(up(State::READY), b"BoardAvailable A", 1, b"M>", 170);
+    send_board(up(State::READY), b"BoardAvailable A", 1, b"M>", 171);
+}
+
+pub fn free() {
     title(b"5 what may be sent in every state");
-    send(
-        up(State::NOT_CONNECTED),
-        b"CheckAlive",
-        alive(whole(1), Words::Absent),
-        b"",
-    );
-    send(
-        down(State::TRANSPORTING),
-        b"Notification",
-        notification(whole(7), whole(4), text(0, 4)),
-        b"oops",
-    );
+    send_alive(up(State::NOT_CONNECTED), b"CheckAlive", Words::Absent, b"");
+    send_notification(down(State::TRANSPORTING), b"Notification", 4);
 }

@@ -2,7 +2,6 @@
 use mathlib.Core.Path.{sym}
 use native.Mathlib.Omega.{arith}
 use lib.Seq.{length-take-le}
-use lib.ListN.{length}
 use borrow.Author.Needs.{needs}
 use Rattle.handover_cases.proofs.calls.received.Statement.{statement}
 use Rattle.handover_cases.proofs.calls.received.Tie as tie
