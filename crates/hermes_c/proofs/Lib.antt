@@ -4,5 +4,6 @@ pub mod NumberLaws
 pub mod MessageLaws
 pub mod LaneLaws
 pub mod CheckLaws
+pub mod RoundTrip
 pub mod ReceiveLaws
 pub mod SendLaws
