@@ -7,7 +7,7 @@ use Rattle.value.specs.declared.id.Guid.{Guid}
 use Rattle.message.specs.Checked.{Checks}
 use Rattle.message.proofs.Theorems.{check-only}
 use Rattle.message.specs.declared.checking.Checked.{Checked}
-use Rattle.hermes_c.specs.Numbers.{idOf, numbersOf}
+use Rattle.flat.specs.Numbers.{idOf, numbersOf}
 use Rattle.hermes_c.specs.Checking.{Finds}
 
 pub finds : {s : Bytes} {c : Checked} {n : List ℕ} {g : Guid} → Checks s c → n ≡ numbersOf (c .message) → g ≡ idOf (c .message) → Finds s (c .refusal) (c .start) (c .end) (c .place) n (g .bytes)

@@ -1,9 +1,6 @@
 pub mod ReadLaws
 pub mod TextLaws
-pub mod NumberLaws
-pub mod MessageLaws
 pub mod LaneLaws
 pub mod CheckLaws
-pub mod RoundTrip
 pub mod ReceiveLaws
 pub mod SendLaws

@@ -20,7 +20,7 @@ use Rattle.handover.specs.Receiving.{movedBy, told, answerOf, Receives}
 use Rattle.handover.specs.declared.receiving.Received.{Received}
 use Rattle.handover.proofs.Theorems.{receive-only}
 use Rattle.hermes_c.specs.Lanes.{Lent}
-use Rattle.hermes_c.specs.Numbers.{idOf, numbersOf}
+use Rattle.flat.specs.Numbers.{idOf, numbersOf}
 use Rattle.hermes_c.specs.Receiving.{ReceivesAs}
 use Rattle.hermes_c.proofs.LaneLaws.{in-parts, lent-only}
 

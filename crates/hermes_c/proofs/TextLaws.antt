@@ -7,7 +7,7 @@ use Rattle.value.specs.Asked.{refusalOf}
 use Rattle.value.specs.Only.{decode-only}
 use Rattle.value.specs.declared.text.Words.{Words}
 use Rattle.value.specs.declared.text.TextAt.{TextAt}
-use Rattle.hermes_c.specs.Messages.{textFrom}
+use Rattle.flat.specs.Messages.{textFrom}
 use Rattle.hermes_c.specs.Texts.{sideOf, atOf, countOf, TextTold}
 
 pub text-told : (s : Bytes) (there start len : ℕ) (old new : Bytes) (t : Words) (r a : TextAt) → t ≡ textFrom there start len → r ≡ a → TextSays s t old new r → TextTold s there start len old new (refusalOf a) (sideOf a) (atOf a) (countOf a)

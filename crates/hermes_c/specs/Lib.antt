@@ -1,6 +1,4 @@
 pub mod Reading
-pub mod Numbers
-pub mod Messages
 pub mod Texts
 pub mod Lanes
 pub mod Checking

@@ -7,7 +7,7 @@ use Rattle.lane.specs.declared.Lane.{Lane}
 use Rattle.handover.specs.Receiving.{Receives}
 use Rattle.handover.specs.declared.receiving.Received.{Received}
 use Rattle.hermes_c.specs.Lanes.{Lent}
-use Rattle.hermes_c.specs.Numbers.{idOf, numbersOf}
+use Rattle.flat.specs.Numbers.{idOf, numbersOf}
 
 -- a lane l, an input s, a buffer that holds `old` before and `new` after; the side is the lane's own
 pub record ReceivesAs (l : Lane) (s old new : Bytes) (refusal state : ℕ) (offered running : Bytes) (numbers : List ℕ) (id : Bytes) (order used written place : ℕ) : Type 0 where

@@ -6,7 +6,7 @@ use Rattle.value.specs.Asking.{TextSays}
 use Rattle.value.specs.Asked.{refusalOf}
 use Rattle.value.specs.declared.text.TextAt.{TextAt}
 use Rattle.value.specs.declared.text.TextAt.the-variants.{InMessage, InScratch, No}
-use Rattle.hermes_c.specs.Messages.{textFrom}
+use Rattle.flat.specs.Messages.{textFrom}
 
 -- which bytes the text is part of: 1 the message, 2 the scratch, 0 none
 abbrev pub sideOf : TextAt → ℕ

@@ -1,7 +1,7 @@
 // What a message says.
 ghost use Rattle.hermes_c.specs.Checking.{Finds};
-use crate::numbers::id_of;
-use crate::numbers::numbers_of;
+use flat::id_of;
+use flat::numbers_of;
 
 /// What the message behind the glue says: the refusal; the message's numbers and its BoardId; where it starts and ends; and the place that is
 /// malformed. What there is none of is 0.

@@ -2,8 +2,6 @@
 // call does not overlap.
 mod checking;
 mod lanes;
-mod messages;
-mod numbers;
 mod reading;
 mod receiving;
 mod sending;

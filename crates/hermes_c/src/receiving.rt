@@ -1,8 +1,8 @@
 // Receiving a message.
 ghost use Rattle.hermes_c.specs.Lanes.{laneOf};
 ghost use Rattle.hermes_c.specs.Receiving.{ReceivesAs};
-use crate::numbers::id_of;
-use crate::numbers::numbers_of;
+use flat::id_of;
+use flat::numbers_of;
 use lane::Lane;
 
 /// Receives the message that stands first in the bytes, behind glue: checks it, moves the lane, and writes the Notification of a refusal or the

@@ -1,8 +1,8 @@
 // Sending a message.
 ghost use Rattle.hermes_c.specs.Lanes.{laneOf};
-ghost use Rattle.hermes_c.specs.Messages.{messageOf};
+ghost use Rattle.flat.specs.Messages.{messageOf};
 ghost use Rattle.hermes_c.specs.Sending.{SendsAs};
-use crate::messages::message_of;
+use flat::message_of;
 use lane::Lane;
 
 /// Sends the message of these numbers and this BoardId, whose texts are parts of `texts`: it stands first in the buffer, and the lane is moved.

@@ -5,8 +5,8 @@ use Rattle.hermes_c.proofs.checking.tryphomel_check.Statement.{statemen
 use Rattle.hermes_c.proofs.checking.tryphomel_check.Tie as tie
 use Rattle.hermes_c.proofs.checking.tryphomel_check.Reads as reads
 use Rattle.hermes_c.proofs.checking.tryphomel_check.Lts as lts
-use Rattle.hermes_c.proofs.numbers.id_of.Reads as id-of-reads
-use Rattle.hermes_c.proofs.numbers.numbers_of.Reads as numbers-of-reads
+use Rattle.flat.proofs.id_of.Reads as id-of-reads
+use Rattle.flat.proofs.numbers_of.Reads as numbers-of-reads
 use Rattle.message.proofs.check.Reads as check-reads
 
 check-requires : tie.Need-check-requires

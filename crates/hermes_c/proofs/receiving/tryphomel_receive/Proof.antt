@@ -6,8 +6,8 @@ use Rattle.hermes_c.proofs.receiving.tryphomel_receive.Tie as tie
 use Rattle.hermes_c.proofs.receiving.tryphomel_receive.Reads as reads
 use Rattle.hermes_c.proofs.receiving.tryphomel_receive.Lts as lts
 use Rattle.handover.proofs.receive.Reads as receive-reads
-use Rattle.hermes_c.proofs.numbers.id_of.Reads as id-of-reads
-use Rattle.hermes_c.proofs.numbers.numbers_of.Reads as numbers-of-reads
+use Rattle.flat.proofs.id_of.Reads as id-of-reads
+use Rattle.flat.proofs.numbers_of.Reads as numbers-of-reads
 
 receive-requires : tie.Need-receive-requires
 receive-requires c κs = search needs

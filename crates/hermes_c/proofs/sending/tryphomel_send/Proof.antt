@@ -6,7 +6,7 @@ use Rattle.hermes_c.proofs.sending.tryphomel_send.Tie as tie
 use Rattle.hermes_c.proofs.sending.tryphomel_send.Reads as reads
 use Rattle.hermes_c.proofs.sending.tryphomel_send.Lts as lts
 use Rattle.handover.proofs.send.Reads as send-reads
-use Rattle.hermes_c.proofs.messages.message_of.Reads as message-of-reads
+use Rattle.flat.proofs.message_of.Reads as message-of-reads
 
 message-of-requires : tie.Need-message-of-requires
 message-of-requires c κs = search needs

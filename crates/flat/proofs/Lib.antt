@@ -1,0 +1,4 @@
+pub mod NumberLaws
+pub mod MessageLaws
+pub mod RoundTrip
+pub mod Theorems

@@ -1,0 +1,26 @@
+-- What is absent is 0.
+use mathlib.Core.Path.{sym, ap}
+use Rattle.flat.specs.Numbers.{intNumbers}
+use borrow.Author.Needs.{needs}
+use Rattle.flat.proofs.numbers.int_numbers.Statement.{statement}
+use Rattle.flat.proofs.numbers.int_numbers.Tie as tie
+use Rattle.flat.proofs.numbers.int_numbers.Reads as reads
+use Rattle.flat.proofs.numbers.int_numbers.Lts as lts
+
+enum-told : tie.Need-enum-told
+enum-told c = search needs
+
+enum-known-w : tie.Need-enum-known-w
+enum-known-w c = search needs
+
+cast-t4 : tie.Need-cast-t4
+cast-t4 c = search needs
+
+returns : tie.Need-returns
+returns c = sym (ap intNumbers (c .enum-told .given .1))
+
+returns-2 : tie.Need-returns-2
+returns-2 c = sym (ap intNumbers (c .before .w .given .1))
+
+pub int-numbers-spec : {M : Type 1} → statement M
+int-numbers-spec = tie.close (tie.spec enum-told enum-known-w cast-t4 returns returns-2)
