@@ -10,3 +10,4 @@ pub mod SentReceived
 pub mod BenchCalls
 pub mod TailFree
 pub mod OneHandover
+pub mod Excluded
