@@ -313,7 +313,7 @@ double ours_checked(const Stream &s, Sum &sum) {
                    tryphomel_checked c;
                    if (tryphomel_message_check(run.data() + at, run.size() - at, &c) != TRYPHOMEL_ACCEPTED) return false;
                    if (c.message.kind != TRYPHOMEL_BOARD_AVAILABLE) return false;
-                   sum.add(true, c.message.board.length.value, c.message.board.failed.value);
+                   sum.add(true, c.message.as.board.length.value, c.message.as.board.failed.value);
                    at += c.end;
                }
                return sum.accepted == s.size();

@@ -183,8 +183,7 @@ struct Both {
     void id(int row, const std::string &s) {
         theirs.values[row].there = true;
         plain::copy(theirs.values[row], s.data(), 36);
-        ours.message.id_there = 1;
-        memcpy(ours.message.id, s.data(), 36);
+        tryphomel_name_board(&ours.message, (const uint8_t *)s.data());
     }
 };
 
@@ -202,7 +201,7 @@ std::string guid() {
 
 Both board(const std::string &id) {
     Both b(3);
-    auto &m = b.ours.message.board;
+    auto &m = b.ours.message.as.board;
     b.id(0, id);
     b.text(1, m.by, words(12));
     b.number(2, m.failed, next(3));
@@ -223,39 +222,39 @@ Both board(const std::string &id) {
 
 Both described() {
     Both b(1);
-    auto &m = b.ours.message.service;
+    auto &m = b.ours.message.as.service;
     b.text(0, m.machine, "Printer 3");
     b.number(1, m.lane, 1);
     b.text(2, m.version, "1.6");
     b.theirs.features = b.theirs.query = true;
-    m.features.there = m.features.query = 1;
+    m.features = tryphomel_supports(TRYPHOMEL_FEATURE_QUERY);
     return b;
 }
 
 Both ready() {
     Both b(5);
-    b.number(0, b.ours.message.ready.failed, 0);
+    b.number(0, b.ours.message.as.ready.failed, 0);
     return b;
 }
 
 Both start(const std::string &id) {
     Both b(7);
     b.id(0, id);
-    b.number(1, b.ours.message.transport.speed, 300000000);
+    b.number(1, b.ours.message.as.transport.speed, 300000000);
     return b;
 }
 
 Both transfer(int kind, const std::string &id) {
     Both b(kind);
-    b.number(0, b.ours.message.transfer.state, 3);
+    b.number(0, b.ours.message.as.transfer.state, 3);
     b.id(1, id);
     return b;
 }
 
 Both ping() {
     Both b(10);
-    b.number(0, b.ours.message.alive.ping, 1);
-    b.text(1, b.ours.message.alive.id, "42");
+    b.number(0, b.ours.message.as.alive.ping, 1);
+    b.text(1, b.ours.message.as.alive.id, "42");
     return b;
 }
 

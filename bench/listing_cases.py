@@ -1,7 +1,7 @@
 #!/usr/bin/env python3
-"""Writes what the programs listing and lines_cases are run on, and the lines that they must print.
+"""Writes what the program listing is run on, and the lines that it must print.
 
-The lines come from how the inputs are built: each message stands here with its kind and refusal, each malformed one with the
+The lines come from how the input is built: each message stands here with its kind and refusal, the malformed one with the
 place in it. Nothing is read.
 """
 import os
@@ -83,8 +83,6 @@ GOOD = [
 
 # a malformed message, and the place in it
 SEVEN = message(nested([b"a", b"b", b"c", b"d", b"e", b"f"])), 24
-MANY = message(b"<Foo%s/>" % counted(33)), len(b"<Hermes><Foo%s " % counted(32))
-LONG_NAME = message(b"<%s/>" % (b"N" * 65)), len(b"<Hermes><") + 64
 
 GLUE = [b"", b"\n", b"\r\n", b" ", b"\t \n"]
 
@@ -114,25 +112,6 @@ def long_stream():
     return lines(parts, (b"\n", SEVEN[0], SEVEN[1], 2))
 
 
-def cases():
-    """Inputs that hold no byte 0: in lines_cases it ends a case."""
-    plain = [(b"", g) for g in GOOD[:-1]]
-    yield lines([], (b"", b"", 0, 1))
-    yield lines([], (b" \t\r\n ", b"", 0, 1))
-    yield lines([(b"", GOOD[0]), (b"\n", GOOD[1])], (b"", b"", 0, 1))
-    yield lines([(b"", GOOD[1])], (b"", b"x", 0, 2))
-    yield lines([(b"", GOOD[1])], (b"\n ", b"", 0, 1))
-    yield lines(plain, (b"\n", GOOD[2][0][:-1], 0, 1))
-    for m, place in (SEVEN, MANY, LONG_NAME):
-        yield lines([(b" ", GOOD[4])], (b"\n\n", m, place, 2))
-    yield lines([(b"", GOOD[-1]), (b"", GOOD[3])], (b"", b"<", 0, 1))
-    yield lines([(b"\n", GOOD[0])], (b"  ", alive(MESSAGE + 1), 0, 3))
-    large = alive(MESSAGE + 2)
-    yield lines([], (b"", large[: MESSAGE - 1], 0, 1))
-    yield lines([], (b"", large[: MESSAGE - 1] + b"x", MESSAGE - 1, 2))
-    yield lines([], (b"\t", large[:MESSAGE] + b"x", 0, 3))
-
-
 def write(name, data):
     with open(os.path.join(TOP, "crates", name), "wb") as f:
         f.write(data)
@@ -141,6 +120,3 @@ def write(name, data):
 text, out = long_stream()
 write("listing/stdin", text)
 write("listing/stdout", out)
-every = list(cases())
-write("lines_cases/stdin", b"".join(t + b"\0" for t, _ in every))
-write("lines_cases/stdout", b"".join(o * 3 for _, o in every))

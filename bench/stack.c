@@ -96,19 +96,35 @@ static void most(const char *name, void (*call)(void), size_t idle) {
     printf("  %-18s %6zu bytes\n", name, bytes);
 }
 
+/* A message of that kind that is as long as it can be. */
+static void longest(int kind) {
+    uint64_t *numbers = (uint64_t *)&message;
+    tryphomel_words part = tryphomel_part(0, TRYPHOMEL_SHORT_TEXT), whole = tryphomel_part(0, TRYPHOMEL_LONG_TEXT);
+    for (int i = 0; i < TRYPHOMEL_NUMBERS; i++) numbers[i] = 1;
+    message.kind = (uint64_t)kind;
+    tryphomel_name_board(&message, (const uint8_t *)"5d10d8c0-8c0a-4d5e-9f2b-0123456789ab");
+    switch (kind) {
+        case TRYPHOMEL_SERVICE_DESCRIPTION:
+            message.as.service.machine = part;
+            message.as.service.version = tryphomel_part(TRYPHOMEL_LONG_TEXT, 3);
+            message.as.service.features = tryphomel_supports(TRYPHOMEL_FEATURE_FORECAST + TRYPHOMEL_FEATURE_QUERY + TRYPHOMEL_FEATURE_SEND);
+            break;
+        case TRYPHOMEL_NOTIFICATION: message.as.notification.description = whole; break;
+        case TRYPHOMEL_BOARD_AVAILABLE:
+            message.as.board.by = message.as.board.order = part;
+            message.as.board.product = message.as.board.top = message.as.board.bottom = whole;
+            break;
+        case TRYPHOMEL_CHECK_ALIVE: message.as.alive.id = part; break;
+    }
+}
+
 static void most_sent(size_t idle) {
     size_t bytes = 0;
     element("", TRYPHOMEL_LONG_TEXT, "\"", "1.6");
     for (int kind = 0; kind <= TRYPHOMEL_CHECK_ALIVE; kind++)
         for (int side = TRYPHOMEL_UPSTREAM; side <= TRYPHOMEL_DOWNSTREAM; side++)
             for (int state = 0; state <= TRYPHOMEL_FINISHED; state++) {
-                uint64_t *numbers = (uint64_t *)&message;
-                for (int i = 0; i < TRYPHOMEL_NUMBERS; i++) numbers[i] = 1;
-                message.kind = (uint64_t)kind;
-                message.board.by = message.board.order = message.service.machine = message.alive.id = tryphomel_part(0, TRYPHOMEL_SHORT_TEXT);
-                message.board.product = message.board.top = message.board.bottom = message.notification.description = tryphomel_part(0, TRYPHOMEL_LONG_TEXT);
-                message.service.version = tryphomel_part(TRYPHOMEL_LONG_TEXT, 3);
-                memcpy(message.id, "5d10d8c0-8c0a-4d5e-9f2b-0123456789ab", sizeof message.id);
+                longest(kind);
                 memset(&lane, 0, sizeof lane);
                 lane.side = (uint8_t)side;
                 lane.state = (uint8_t)state;

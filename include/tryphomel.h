@@ -12,6 +12,7 @@
 
 #include <stddef.h>
 #include <stdint.h>
+#include <string.h>
 
 typedef char tryphomel_wants_64_bits[sizeof(size_t) == 8 ? 1 : -1];
 
@@ -62,7 +63,9 @@ enum {
 };
 
 /* Refusals. In receiving, 2 to 6 and 9 end the connection: send what was written, close, and connect anew. 1 asks for more bytes behind the
- * same ones, 7 for a larger buffer. In sending, every refusal keeps lane and buffer. */
+ * same ones, 7 for a larger buffer. In sending, every refusal keeps lane and buffer.
+ * A message ends with '>': after 1, bytes without one end no message. Who gets single bytes asks again when a '>' has come, when
+ * TRYPHOMEL_MESSAGE_BYTES lie behind the blanks, or when he has waited long enough; asking after each byte costs the square of the length. */
 enum {
     TRYPHOMEL_ACCEPTED = 0,
     TRYPHOMEL_MORE_NEEDED = 1,
@@ -82,6 +85,13 @@ enum {
     TRYPHOMEL_PONG = 2
 };
 
+/* The bits of SupportedFeatures. */
+enum {
+    TRYPHOMEL_FEATURE_FORECAST = 1,
+    TRYPHOMEL_FEATURE_QUERY = 2,
+    TRYPHOMEL_FEATURE_SEND = 4
+};
+
 /* Where a text is. */
 enum {
     TRYPHOMEL_NOWHERE = 0,
@@ -99,68 +109,77 @@ enum {
     TRYPHOMEL_LONG_TEXT = 254
 };
 
-/* Sizes: a BoardId's bytes, a message's numbers, and the room that receiving and sending can want at most. */
+/* Sizes: a BoardId's bytes, a message's cells and its numbers, and the room that receiving and sending can want at most. */
 enum {
     TRYPHOMEL_ID_BYTES = 36,
-    TRYPHOMEL_NUMBERS = 65,
+    TRYPHOMEL_CELLS = 24,
+    TRYPHOMEL_NUMBERS = 73,
     TRYPHOMEL_RECEIVE_ROOM = 525,
     TRYPHOMEL_SEND_ROOM = 5933
 };
 
-/* A text. Received: the place of its raw value in the bytes that were received; tryphomel_text reads it. To be sent: the place of the plain
- * UTF-8 in the texts. `there` is 0 or 1; in a message to be sent any number but 0 is yes. */
+/* A message is its kind, and a cell of three numbers for each attribute of its kind, in the order of the standard's table. A cell says first
+ * whether the value is there: 0 or 1; in a message to be sent any number but 0 is yes. What is absent is zero in a received message, and so are
+ * `spare` and the cells behind the last attribute; in a message to be sent all these are ignored. */
+
+/* A text. Received: the place of its raw value in the bytes that were received; tryphomel_words_text reads it. To be sent: the place of the
+ * plain UTF-8 in the texts. In the cell of a BoardId only `there` counts: its bytes are the message's `id`. */
 typedef struct {
     uint64_t there, start, len;
 } tryphomel_words;
 
 /* An int, or a measure in millionths: 160.5 is 160500000. */
 typedef struct {
-    uint64_t there, value;
+    uint64_t there, value, spare;
 } tryphomel_number;
 
-/* SupportedFeatures, and which features stand in it. */
+/* SupportedFeatures: the sum of the TRYPHOMEL_FEATURE_ bits that stand in it. */
 typedef struct {
-    uint64_t there, forecast, query, send;
+    uint64_t there, bits, spare;
 } tryphomel_features;
 
-/* A message of any kind. What is not its kind's is zero in a received message, and ignored in one to be sent. The members to `id_there` are
- * the 65 numbers of the calls, in their order. */
+/* A message of any kind. `as` holds the cells of its kind alone: look at `kind` before reading one. `cells` are the same cells by number.
+ * `kind` and `as` are the 73 numbers of the calls. */
 typedef struct {
     uint64_t kind;
-    struct {
-        tryphomel_words machine;
-        tryphomel_number lane;
-        tryphomel_words version;
-        tryphomel_features features;
-    } service;
-    struct {
-        tryphomel_number code, severity;
-        tryphomel_words description;
-    } notification;
-    struct {
-        tryphomel_words by;
-        tryphomel_number failed;
-        tryphomel_words product;
-        tryphomel_number flipped;
-        tryphomel_words top, bottom;
-        tryphomel_number length, width, thickness, speed, above, below, weight;
-        tryphomel_words order;
-    } board;
-    struct {
-        tryphomel_number failed;
-    } ready;
-    struct {
-        tryphomel_number speed;
-    } transport;
-    struct { /* StopTransport and TransportFinished */
-        tryphomel_number state;
-    } transfer;
-    struct {
-        tryphomel_number ping; /* Type */
-        tryphomel_words id;
-    } alive;
-    uint64_t id_there; /* the BoardId of a BoardAvailable, StartTransport, StopTransport or TransportFinished */
-    uint8_t id[TRYPHOMEL_ID_BYTES];
+    union {
+        tryphomel_words cells[TRYPHOMEL_CELLS];
+        struct { /* ServiceDescription */
+            tryphomel_words machine;
+            tryphomel_number lane;
+            tryphomel_words version;
+            tryphomel_features features;
+        } service;
+        struct { /* Notification */
+            tryphomel_number code, severity;
+            tryphomel_words description;
+        } notification;
+        struct { /* BoardAvailable */
+            tryphomel_words id, by;
+            tryphomel_number failed;
+            tryphomel_words product;
+            tryphomel_number flipped;
+            tryphomel_words top, bottom;
+            tryphomel_number length, width, thickness, speed, above, below, weight;
+            tryphomel_words order;
+        } board;
+        struct { /* MachineReady */
+            tryphomel_number failed;
+        } ready;
+        struct { /* StartTransport */
+            tryphomel_words id;
+            tryphomel_number speed;
+        } transport;
+        struct { /* StopTransport and TransportFinished */
+            tryphomel_number state;
+            tryphomel_words id;
+        } transfer;
+        struct { /* CheckAlive */
+            tryphomel_number ping; /* Type */
+            tryphomel_words id;    /* Id, a text */
+        } alive;
+    } as;
+    uint8_t id[TRYPHOMEL_ID_BYTES]; /* the BoardId; zeros in a received message that has none */
 } tryphomel_message;
 
 /* A lane: keep it between the calls, and change it by the calls only. */
@@ -212,7 +231,7 @@ uint8_t tryphomel_receive(uint8_t side, uint8_t *state, uint8_t offered[TRYPHOME
                           const uint8_t *bytes, size_t size, uint8_t *out, size_t room, uint64_t numbers[TRYPHOMEL_NUMBERS],
                           uint8_t id[TRYPHOMEL_ID_BYTES], uint8_t *order, uint64_t *used, uint64_t *written, uint64_t *place);
 
-/* Writes a message first into `out`, if the lane may send it. An int above 4294967295 counts as 4294967295, a kind above 255 as 255. */
+/* Writes a message first into `out`, if the lane may send it. A kind above 255 counts as 255, and may not be sent. */
 uint8_t tryphomel_send(uint8_t side, uint8_t *state, uint8_t offered[TRYPHOMEL_ID_BYTES], uint8_t running[TRYPHOMEL_ID_BYTES],
                        const uint64_t numbers[TRYPHOMEL_NUMBERS], const uint8_t id[TRYPHOMEL_ID_BYTES], const uint8_t *texts, size_t size, uint8_t *out,
                        size_t room, uint8_t *order, uint64_t *written);
@@ -253,11 +272,20 @@ static inline uint8_t tryphomel_words_text(tryphomel_words words, const void *by
     return refusal;
 }
 
-/* Values of a message to be sent: a number, and a text that stands in the texts. */
+/* A message to be sent, in which nothing is there yet. */
+static inline tryphomel_message tryphomel_blank(uint64_t kind) {
+    tryphomel_message m;
+    memset(&m, 0, sizeof m);
+    m.kind = kind;
+    return m;
+}
+
+/* Values of a message to be sent: a number, a text that stands in the texts, and features. */
 static inline tryphomel_number tryphomel_is(uint64_t value) {
     tryphomel_number n;
     n.there = 1;
     n.value = value;
+    n.spare = 0;
     return n;
 }
 
@@ -267,6 +295,39 @@ static inline tryphomel_words tryphomel_part(uint64_t start, uint64_t len) {
     w.start = start;
     w.len = len;
     return w;
+}
+
+static inline tryphomel_features tryphomel_supports(uint64_t bits) {
+    tryphomel_features f;
+    f.there = 1;
+    f.bits = bits;
+    f.spare = 0;
+    return f;
+}
+
+/* The number of the BoardId's cell, and TRYPHOMEL_CELLS for a kind that has no BoardId. */
+static inline size_t tryphomel_id_cell(uint64_t kind) {
+    switch (kind) {
+        case TRYPHOMEL_BOARD_AVAILABLE:
+        case TRYPHOMEL_START_TRANSPORT: return 0;
+        case TRYPHOMEL_STOP_TRANSPORT:
+        case TRYPHOMEL_TRANSPORT_FINISHED: return 1;
+        default: return TRYPHOMEL_CELLS;
+    }
+}
+
+/* Whether a message has a BoardId. */
+static inline int tryphomel_has_id(const tryphomel_message *message) {
+    size_t cell = tryphomel_id_cell(message->kind);
+    return cell < TRYPHOMEL_CELLS && message->as.cells[cell].there != 0;
+}
+
+/* Gives a message its BoardId; one whose kind has none is kept. */
+static inline void tryphomel_name_board(tryphomel_message *message, const uint8_t id[TRYPHOMEL_ID_BYTES]) {
+    size_t cell = tryphomel_id_cell(message->kind);
+    if (cell == TRYPHOMEL_CELLS) return;
+    message->as.cells[cell].there = 1;
+    memcpy(message->id, id, TRYPHOMEL_ID_BYTES);
 }
 
 #endif

@@ -85,19 +85,20 @@ Bytes input(Random &r) {
 }
 
 std::string shown(const Verdict &v) {
-    return "refusal " + std::to_string(v.refusal) + ", kind " + std::to_string(v.kind) + ", Length " + std::to_string(v.length) + ", FailedBoard " +
-           std::to_string(v.failed);
+    std::string s = "refusal " + std::to_string(v.refusal) + ", kind " + std::to_string(v.kind) + ", id " + shown(v.id);
+    for (size_t i = 0; i < v.values.size(); i++)
+        if (!(v.values[i] == Value()))
+            s += ", cell " + std::to_string(i) + ": " + std::to_string(v.values[i].there) + " " + std::to_string(v.values[i].number) + " " + shown(v.values[i].text);
+    return s;
 }
 
 // The check says the same of start and end as the reader, and of a message what the table says of a peer's tree.
 void checked(Case &c, const Bytes &in, const Answer &a, const Tree &tree) {
     tryphomel_checked found;
-    Verdict ours, want;
+    Verdict want;
     memset(&found, 0xa5, sizeof found);
-    ours.refusal = tryphomel_message_check(in.data(), in.size(), &found);
-    ours.kind = found.message.kind;
-    ours.length = found.message.board.length.value;
-    ours.failed = found.message.board.failed.value;
+    tryphomel_message_check(in.data(), in.size(), &found);
+    Verdict ours = said_in(in, found.refusal, found.message);
     want.refusal = a.number;
     if (a.number == 0) want = verdict(tree);
     if (a.number == 0) tally.verdicts[want.refusal]++;

@@ -7,22 +7,27 @@
 
 #define FITS(name, fact) typedef char fits_##name[(fact) ? 1 : -1]
 #define AT(member, index) (offsetof(tryphomel_message, member) == 8 * (index))
+#define CELL(member, row) AT(as.member, 1 + 3 * (row))
 
 FITS(lane_size, sizeof(tryphomel_lane) == 74);
 FITS(lane_places, offsetof(tryphomel_lane, side) == 0 && offsetof(tryphomel_lane, state) == 1 && offsetof(tryphomel_lane, offered) == 2 &&
                       offsetof(tryphomel_lane, running) == 38);
-FITS(parts, sizeof(tryphomel_words) == 24 && sizeof(tryphomel_number) == 16 && sizeof(tryphomel_features) == 32);
+FITS(cells, sizeof(tryphomel_words) == 24 && sizeof(tryphomel_number) == 24 && sizeof(tryphomel_features) == 24);
 FITS(words, offsetof(tryphomel_words, there) == 0 && offsetof(tryphomel_words, start) == 8 && offsetof(tryphomel_words, len) == 16);
-FITS(number, offsetof(tryphomel_number, there) == 0 && offsetof(tryphomel_number, value) == 8);
-FITS(features, offsetof(tryphomel_features, there) == 0 && offsetof(tryphomel_features, forecast) == 8 && offsetof(tryphomel_features, query) == 16 &&
-                   offsetof(tryphomel_features, send) == 24);
-FITS(service, AT(kind, 0) && AT(service.machine, 1) && AT(service.lane, 4) && AT(service.version, 6) && AT(service.features, 9));
-FITS(notification, AT(notification.code, 13) && AT(notification.severity, 15) && AT(notification.description, 17));
-FITS(board, AT(board.by, 20) && AT(board.failed, 23) && AT(board.product, 25) && AT(board.flipped, 28) && AT(board.top, 30) && AT(board.bottom, 33));
-FITS(measures, AT(board.length, 36) && AT(board.width, 38) && AT(board.thickness, 40) && AT(board.speed, 42) && AT(board.above, 44) &&
-                   AT(board.below, 46) && AT(board.weight, 48) && AT(board.order, 50));
-FITS(others, AT(ready.failed, 53) && AT(transport.speed, 55) && AT(transfer.state, 57) && AT(alive.ping, 59) && AT(alive.id, 61));
-FITS(id, AT(id_there, 64) && AT(id, TRYPHOMEL_NUMBERS) && sizeof(((tryphomel_message *)0)->id) == TRYPHOMEL_ID_BYTES);
+FITS(number, offsetof(tryphomel_number, there) == 0 && offsetof(tryphomel_number, value) == 8 && offsetof(tryphomel_number, spare) == 16);
+FITS(features, offsetof(tryphomel_features, there) == 0 && offsetof(tryphomel_features, bits) == 8 && offsetof(tryphomel_features, spare) == 16);
+FITS(numbers, TRYPHOMEL_CELLS == 24 && TRYPHOMEL_NUMBERS == 1 + 3 * TRYPHOMEL_CELLS && AT(kind, 0) && CELL(cells, 0) && CELL(cells[23], 23));
+FITS(service, CELL(service.machine, 0) && CELL(service.lane, 1) && CELL(service.version, 2) && CELL(service.features, 3));
+FITS(notification, CELL(notification.code, 0) && CELL(notification.severity, 1) && CELL(notification.description, 2));
+FITS(board, CELL(board.id, 0) && CELL(board.by, 1) && CELL(board.failed, 2) && CELL(board.product, 3) && CELL(board.flipped, 4) && CELL(board.top, 5) &&
+                CELL(board.bottom, 6) && CELL(board.order, 14));
+FITS(measures, CELL(board.length, 7) && CELL(board.width, 8) && CELL(board.thickness, 9) && CELL(board.speed, 10) && CELL(board.above, 11) &&
+                   CELL(board.below, 12) && CELL(board.weight, 13));
+FITS(ready, CELL(ready.failed, 0));
+FITS(transport, CELL(transport.id, 0) && CELL(transport.speed, 1));
+FITS(transfer, CELL(transfer.state, 0) && CELL(transfer.id, 1));
+FITS(alive, CELL(alive.ping, 0) && CELL(alive.id, 1));
+FITS(id, AT(id, TRYPHOMEL_NUMBERS) && sizeof(((tryphomel_message *)0)->as) == 576 && sizeof(((tryphomel_message *)0)->id) == TRYPHOMEL_ID_BYTES);
 
 static int passed, failed;
 
@@ -36,22 +41,10 @@ static void check_at(int line, const char *what, int fact) {
 }
 #define CHECK(fact) check_at(__LINE__, #fact, (fact) != 0)
 
-static const char ID[] = "0123abcd-4567-89ef-0123-456789abcdef";
+static const uint8_t ID[] = "0123abcd-4567-89ef-0123-456789abcdef";
 static const char OTHER[] = "99999999-4567-89ef-0123-456789abcdef";
 static char buffer[70000], texts[70000];
 static uint8_t out[6000];
-
-static tryphomel_message none(uint64_t kind) {
-    tryphomel_message m;
-    memset(&m, 0, sizeof m);
-    m.kind = kind;
-    return m;
-}
-
-static void name(tryphomel_message *m, const char *id) {
-    m->id_there = 1;
-    memcpy(m->id, id, sizeof m->id);
-}
 
 /* A text of the message to be sent: it is put behind the others. */
 static tryphomel_words put(const char *text) {
@@ -94,110 +87,117 @@ static tryphomel_checked there_and_back(int line, int side, int state, tryphomel
 }
 
 static int is_text(tryphomel_words w, const char *text) { return w.there == 1 && w.len == strlen(text) && memcmp(out + w.start, text, w.len) == 0; }
-static int is_number(tryphomel_number n, uint64_t value) { return n.there == 1 && n.value == value; }
-static int is_none(tryphomel_number n) { return n.there == 0 && n.value == 0; }
-static int no_text(tryphomel_words w) { return w.there == 0 && w.start == 0 && w.len == 0; }
+static int is_number(tryphomel_number n, uint64_t value) { return n.there == 1 && n.value == value && n.spare == 0; }
+static int is_set(tryphomel_features f, uint64_t bits) { return f.there == 1 && f.bits == bits && f.spare == 0; }
+
+/* A received message has that BoardId, in that cell. */
+static int is_board(const tryphomel_message *m, tryphomel_words cell) {
+    return cell.there == 1 && cell.start == 0 && cell.len == 0 && tryphomel_has_id(m) && memcmp(m->id, ID, sizeof m->id) == 0;
+}
+
+/* The cells from that one on are absent. */
+static int none_from(const tryphomel_message *m, size_t cell) {
+    for (; cell < TRYPHOMEL_CELLS; cell++)
+        if (m->as.cells[cell].there != 0 || m->as.cells[cell].start != 0 || m->as.cells[cell].len != 0) return 0;
+    return 1;
+}
+static int no_board(const tryphomel_message *m) { return !tryphomel_has_id(m) && zero(m->id); }
 
 static void descriptions(void) {
-    tryphomel_message m = none(TRYPHOMEL_SERVICE_DESCRIPTION);
+    tryphomel_message m = tryphomel_blank(TRYPHOMEL_SERVICE_DESCRIPTION);
     tryphomel_checked c;
-    m.service.machine = put("Printer 3");
-    m.service.lane = tryphomel_is(7);
-    m.service.version = put("1.6");
-    m.service.features.there = 1;
-    m.service.features.query = 1;
+    m.as.service.machine = put("Printer 3");
+    m.as.service.lane = tryphomel_is(7);
+    m.as.service.version = put("1.6");
+    m.as.service.features = tryphomel_supports(TRYPHOMEL_FEATURE_QUERY);
     c = there_and_back(__LINE__, TRYPHOMEL_DOWNSTREAM, TRYPHOMEL_NOT_CONNECTED, m,
                        "<Hermes><ServiceDescription MachineId=\"Printer 3\" LaneId=\"7\" Version=\"1.6\"><SupportedFeatures><FeatureQueryBoardInfo/>"
                        "</SupportedFeatures></ServiceDescription></Hermes>",
                        TRYPHOMEL_DESCRIBED_DOWN);
-    CHECK(is_text(c.message.service.machine, "Printer 3") && is_number(c.message.service.lane, 7) && is_text(c.message.service.version, "1.6"));
-    CHECK(c.message.service.features.there == 1 && c.message.service.features.forecast == 0);
-    CHECK(c.message.service.features.query == 1 && c.message.service.features.send == 0);
-    CHECK(no_text(c.message.board.by) && is_none(c.message.board.failed) && c.message.id_there == 0 && zero(c.message.id));
-    m.service.machine = put("P");
-    m.service.version = put("1.0");
-    m.service.features.query = 0;
-    m.service.features.forecast = 5;
-    m.service.features.send = 9;
+    CHECK(is_text(c.message.as.service.machine, "Printer 3") && is_number(c.message.as.service.lane, 7) && is_text(c.message.as.service.version, "1.6"));
+    CHECK(is_set(c.message.as.service.features, TRYPHOMEL_FEATURE_QUERY) && none_from(&c.message, 4) && no_board(&c.message));
+    m.as.service.machine = put("P");
+    m.as.service.version = put("1.0");
+    m.as.service.features = tryphomel_supports(8 + TRYPHOMEL_FEATURE_FORECAST + TRYPHOMEL_FEATURE_SEND);
+    m.as.service.features.there = m.as.service.lane.there = m.as.service.lane.spare = 9;
     c = there_and_back(__LINE__, TRYPHOMEL_UPSTREAM, TRYPHOMEL_DESCRIBED_DOWN, m,
                        "<Hermes><ServiceDescription MachineId=\"P\" LaneId=\"7\" Version=\"1.0\"><SupportedFeatures><FeatureBoardForecast/>"
                        "<FeatureSendBoardInfo/></SupportedFeatures></ServiceDescription></Hermes>",
                        TRYPHOMEL_IDLE);
-    CHECK(c.message.service.features.forecast == 1 && c.message.service.features.query == 0 && c.message.service.features.send == 1);
-    m = none(TRYPHOMEL_NOTIFICATION);
-    m.notification.code = tryphomel_is(11);
-    m.notification.severity = tryphomel_is(3);
-    m.notification.description = put("door open");
+    CHECK(is_set(c.message.as.service.features, TRYPHOMEL_FEATURE_FORECAST + TRYPHOMEL_FEATURE_SEND) && is_number(c.message.as.service.lane, 7));
+    m = tryphomel_blank(TRYPHOMEL_NOTIFICATION);
+    m.as.notification.code = tryphomel_is(11);
+    m.as.notification.severity = tryphomel_is(3);
+    m.as.notification.description = put("door open");
     c = there_and_back(__LINE__, TRYPHOMEL_UPSTREAM, TRYPHOMEL_IDLE, m,
                        "<Hermes><Notification NotificationCode=\"11\" Severity=\"3\" Description=\"door open\"/></Hermes>", TRYPHOMEL_IDLE);
-    CHECK(is_number(c.message.notification.code, 11) && is_number(c.message.notification.severity, 3));
-    CHECK(is_text(c.message.notification.description, "door open"));
+    CHECK(is_number(c.message.as.notification.code, 11) && is_number(c.message.as.notification.severity, 3));
+    CHECK(is_text(c.message.as.notification.description, "door open") && none_from(&c.message, 3) && no_board(&c.message));
 }
 
 static void boards(void) {
-    tryphomel_message m = none(TRYPHOMEL_BOARD_AVAILABLE);
+    tryphomel_message m = tryphomel_blank(TRYPHOMEL_BOARD_AVAILABLE);
     tryphomel_checked c;
-    name(&m, ID);
-    m.board.by = put("Loader");
-    m.board.failed = tryphomel_is(1);
-    m.board.product = put("type 5");
-    m.board.flipped = tryphomel_is(2);
-    m.board.top = put("T-77");
-    m.board.bottom = put("B-88");
-    m.board.length = tryphomel_is(160500000);
-    m.board.width = tryphomel_is(2000000);
-    m.board.thickness = tryphomel_is(1600000);
-    m.board.speed = tryphomel_is(4000000);
-    m.board.above = tryphomel_is(25000001);
-    m.board.below = tryphomel_is(6000000);
-    m.board.weight = tryphomel_is(500000);
-    m.board.order = put("WO 9");
+    tryphomel_name_board(&m, ID);
+    m.as.board.by = put("Loader");
+    m.as.board.failed = tryphomel_is(1);
+    m.as.board.product = put("type 5");
+    m.as.board.flipped = tryphomel_is(2);
+    m.as.board.top = put("T-77");
+    m.as.board.bottom = put("B-88");
+    m.as.board.length = tryphomel_is(160500000);
+    m.as.board.width = tryphomel_is(2000000);
+    m.as.board.thickness = tryphomel_is(1600000);
+    m.as.board.speed = tryphomel_is(4000000);
+    m.as.board.above = tryphomel_is(25000001);
+    m.as.board.below = tryphomel_is(6000000);
+    m.as.board.weight = tryphomel_is(500000);
+    m.as.board.order = put("WO 9");
     c = there_and_back(__LINE__, TRYPHOMEL_UPSTREAM, TRYPHOMEL_IDLE, m,
                        "<Hermes><BoardAvailable BoardId=\"0123abcd-4567-89ef-0123-456789abcdef\" BoardIdCreatedBy=\"Loader\" FailedBoard=\"1\""
                        " ProductTypeId=\"type 5\" FlippedBoard=\"2\" TopBarcode=\"T-77\" BottomBarcode=\"B-88\" Length=\"160.5\" Width=\"2\" Thickness=\"1.6\""
                        " ConveyorSpeed=\"4\" TopClearanceHeight=\"25.000001\" BottomClearanceHeight=\"6\" Weight=\"0.5\" WorkOrderId=\"WO 9\"/></Hermes>",
                        TRYPHOMEL_OFFERED);
-    CHECK(c.message.id_there == 1 && memcmp(c.message.id, ID, 36) == 0);
-    CHECK(is_text(c.message.board.by, "Loader") && is_number(c.message.board.failed, 1) && is_text(c.message.board.product, "type 5"));
-    CHECK(is_number(c.message.board.flipped, 2) && is_text(c.message.board.top, "T-77") && is_text(c.message.board.bottom, "B-88"));
-    CHECK(is_number(c.message.board.length, 160500000) && is_number(c.message.board.width, 2000000) && is_number(c.message.board.thickness, 1600000));
-    CHECK(is_number(c.message.board.speed, 4000000) && is_number(c.message.board.above, 25000001) && is_number(c.message.board.below, 6000000));
-    CHECK(is_number(c.message.board.weight, 500000) && is_text(c.message.board.order, "WO 9"));
-    CHECK(c.message.service.features.there == 0 && is_none(c.message.transport.speed) && is_none(c.message.transfer.state));
-    there_and_back(__LINE__, TRYPHOMEL_UPSTREAM, TRYPHOMEL_BOTH, none(TRYPHOMEL_REVOKE_BOARD_AVAILABLE), "<Hermes><RevokeBoardAvailable/></Hermes>",
+    CHECK(is_board(&c.message, c.message.as.board.id) && none_from(&c.message, 15));
+    CHECK(is_text(c.message.as.board.by, "Loader") && is_number(c.message.as.board.failed, 1) && is_text(c.message.as.board.product, "type 5"));
+    CHECK(is_number(c.message.as.board.flipped, 2) && is_text(c.message.as.board.top, "T-77") && is_text(c.message.as.board.bottom, "B-88"));
+    CHECK(is_number(c.message.as.board.length, 160500000) && is_number(c.message.as.board.width, 2000000) && is_number(c.message.as.board.thickness, 1600000));
+    CHECK(is_number(c.message.as.board.speed, 4000000) && is_number(c.message.as.board.above, 25000001) && is_number(c.message.as.board.below, 6000000));
+    CHECK(is_number(c.message.as.board.weight, 500000) && is_text(c.message.as.board.order, "WO 9"));
+    there_and_back(__LINE__, TRYPHOMEL_UPSTREAM, TRYPHOMEL_BOTH, tryphomel_blank(TRYPHOMEL_REVOKE_BOARD_AVAILABLE), "<Hermes><RevokeBoardAvailable/></Hermes>",
                    TRYPHOMEL_READY);
-    m = none(TRYPHOMEL_MACHINE_READY);
-    m.ready.failed = tryphomel_is(2);
+    m = tryphomel_blank(TRYPHOMEL_MACHINE_READY);
+    m.as.ready.failed = tryphomel_is(2);
     c = there_and_back(__LINE__, TRYPHOMEL_DOWNSTREAM, TRYPHOMEL_OFFERED, m, "<Hermes><MachineReady FailedBoard=\"2\"/></Hermes>", TRYPHOMEL_BOTH);
-    CHECK(is_number(c.message.ready.failed, 2) && is_none(c.message.board.failed));
-    there_and_back(__LINE__, TRYPHOMEL_DOWNSTREAM, TRYPHOMEL_READY, none(TRYPHOMEL_REVOKE_MACHINE_READY), "<Hermes><RevokeMachineReady/></Hermes>",
+    CHECK(is_number(c.message.as.ready.failed, 2) && none_from(&c.message, 1) && no_board(&c.message));
+    there_and_back(__LINE__, TRYPHOMEL_DOWNSTREAM, TRYPHOMEL_READY, tryphomel_blank(TRYPHOMEL_REVOKE_MACHINE_READY), "<Hermes><RevokeMachineReady/></Hermes>",
                    TRYPHOMEL_IDLE);
 }
 
 static void transports(void) {
-    tryphomel_message m = none(TRYPHOMEL_START_TRANSPORT);
+    tryphomel_message m = tryphomel_blank(TRYPHOMEL_START_TRANSPORT);
     tryphomel_checked c;
-    name(&m, ID);
-    m.transport.speed = tryphomel_is(300000000);
+    tryphomel_name_board(&m, ID);
+    m.as.transport.speed = tryphomel_is(300000000);
     c = there_and_back(__LINE__, TRYPHOMEL_DOWNSTREAM, TRYPHOMEL_BOTH, m,
                        "<Hermes><StartTransport BoardId=\"0123abcd-4567-89ef-0123-456789abcdef\" ConveyorSpeed=\"300\"/></Hermes>", TRYPHOMEL_TRANSPORTING);
-    CHECK(is_number(c.message.transport.speed, 300000000) && c.message.id_there == 1 && memcmp(c.message.id, ID, 36) == 0);
-    m = none(TRYPHOMEL_STOP_TRANSPORT);
-    name(&m, ID);
-    m.transfer.state = tryphomel_is(3);
+    CHECK(is_number(c.message.as.transport.speed, 300000000) && is_board(&c.message, c.message.as.transport.id) && none_from(&c.message, 2));
+    m = tryphomel_blank(TRYPHOMEL_STOP_TRANSPORT);
+    tryphomel_name_board(&m, ID);
+    m.as.transfer.state = tryphomel_is(3);
     c = there_and_back(__LINE__, TRYPHOMEL_DOWNSTREAM, TRYPHOMEL_TRANSPORTING, m,
                        "<Hermes><StopTransport TransferState=\"3\" BoardId=\"0123abcd-4567-89ef-0123-456789abcdef\"/></Hermes>", TRYPHOMEL_STOPPED);
-    CHECK(is_number(c.message.transfer.state, 3) && c.message.id_there == 1 && memcmp(c.message.id, ID, 36) == 0);
+    CHECK(is_number(c.message.as.transfer.state, 3) && is_board(&c.message, c.message.as.transfer.id) && none_from(&c.message, 2));
     m.kind = TRYPHOMEL_TRANSPORT_FINISHED;
-    m.transfer.state = tryphomel_is(2);
+    m.as.transfer.state = tryphomel_is(2);
     c = there_and_back(__LINE__, TRYPHOMEL_UPSTREAM, TRYPHOMEL_TRANSPORTING, m,
                        "<Hermes><TransportFinished TransferState=\"2\" BoardId=\"0123abcd-4567-89ef-0123-456789abcdef\"/></Hermes>", TRYPHOMEL_FINISHED);
-    CHECK(is_number(c.message.transfer.state, 2) && c.message.id_there == 1 && memcmp(c.message.id, ID, 36) == 0);
-    m = none(TRYPHOMEL_CHECK_ALIVE);
-    m.alive.ping = tryphomel_is(TRYPHOMEL_PING);
-    m.alive.id = put("42");
+    CHECK(is_number(c.message.as.transfer.state, 2) && is_board(&c.message, c.message.as.transfer.id) && none_from(&c.message, 2));
+    m = tryphomel_blank(TRYPHOMEL_CHECK_ALIVE);
+    m.as.alive.ping = tryphomel_is(TRYPHOMEL_PING);
+    m.as.alive.id = put("42");
     c = there_and_back(__LINE__, TRYPHOMEL_UPSTREAM, TRYPHOMEL_NOT_CONNECTED, m, "<Hermes><CheckAlive Type=\"1\" Id=\"42\"/></Hermes>", TRYPHOMEL_NOT_CONNECTED);
-    CHECK(is_number(c.message.alive.ping, TRYPHOMEL_PING) && is_text(c.message.alive.id, "42"));
+    CHECK(is_number(c.message.as.alive.ping, TRYPHOMEL_PING) && is_text(c.message.as.alive.id, "42") && none_from(&c.message, 2) && no_board(&c.message));
 }
 
 /* One side sends, the other receives; both are then in the state. */
@@ -216,34 +216,35 @@ static void step(int line, tryphomel_lane *from, tryphomel_lane *to, tryphomel_m
 }
 
 static tryphomel_message description(void) {
-    tryphomel_message m = none(TRYPHOMEL_SERVICE_DESCRIPTION);
-    m.service.machine = put("M");
-    m.service.lane = tryphomel_is(1);
-    m.service.version = put("1.6");
-    m.service.features.there = 1;
+    tryphomel_message m = tryphomel_blank(TRYPHOMEL_SERVICE_DESCRIPTION);
+    m.as.service.machine = put("M");
+    m.as.service.lane = tryphomel_is(1);
+    m.as.service.version = put("1.6");
+    m.as.service.features = tryphomel_supports(0);
     return m;
 }
 
 static tryphomel_message offer(void) {
-    tryphomel_message m = none(TRYPHOMEL_BOARD_AVAILABLE);
-    name(&m, ID);
-    m.board.by = put("M");
-    m.board.failed = tryphomel_is(0);
-    m.board.flipped = tryphomel_is(0);
+    tryphomel_message m = tryphomel_blank(TRYPHOMEL_BOARD_AVAILABLE);
+    tryphomel_name_board(&m, ID);
+    m.as.board.by = put("M");
+    m.as.board.failed = tryphomel_is(0);
+    m.as.board.flipped = tryphomel_is(0);
     return m;
 }
 
-static tryphomel_message with_id(int kind, uint64_t state) {
-    tryphomel_message m = none((uint64_t)kind);
-    name(&m, ID);
-    m.transfer.state = tryphomel_is(state);
+static tryphomel_message transfer(int kind) {
+    tryphomel_message m = tryphomel_blank((uint64_t)kind);
+    tryphomel_name_board(&m, ID);
+    m.as.transfer.state = tryphomel_is(3);
     return m;
 }
 
 static void handover(void) {
     tryphomel_lane up, down;
-    tryphomel_message ready = none(TRYPHOMEL_MACHINE_READY);
-    ready.ready.failed = tryphomel_is(0);
+    tryphomel_message ready = tryphomel_blank(TRYPHOMEL_MACHINE_READY), start = tryphomel_blank(TRYPHOMEL_START_TRANSPORT);
+    ready.as.ready.failed = tryphomel_is(0);
+    tryphomel_name_board(&start, ID);
     memset(&up, 0xa5, sizeof up);
     memset(&down, 0xa5, sizeof down);
     tryphomel_lane_upstream(&up);
@@ -255,10 +256,10 @@ static void handover(void) {
     step(__LINE__, &up, &down, offer(), TRYPHOMEL_OFFERED, TRYPHOMEL_ORDER_NONE, TRYPHOMEL_ORDER_NONE);
     CHECK(memcmp(up.offered, ID, 36) == 0 && zero(up.running));
     step(__LINE__, &down, &up, ready, TRYPHOMEL_BOTH, TRYPHOMEL_ORDER_NONE, TRYPHOMEL_ORDER_NONE);
-    step(__LINE__, &down, &up, with_id(TRYPHOMEL_START_TRANSPORT, 0), TRYPHOMEL_TRANSPORTING, TRYPHOMEL_ORDER_RUN, TRYPHOMEL_ORDER_RUN);
+    step(__LINE__, &down, &up, start, TRYPHOMEL_TRANSPORTING, TRYPHOMEL_ORDER_RUN, TRYPHOMEL_ORDER_RUN);
     CHECK(zero(up.offered) && memcmp(up.running, ID, 36) == 0);
-    step(__LINE__, &up, &down, with_id(TRYPHOMEL_TRANSPORT_FINISHED, 3), TRYPHOMEL_FINISHED, TRYPHOMEL_ORDER_NONE, TRYPHOMEL_ORDER_NONE);
-    step(__LINE__, &down, &up, with_id(TRYPHOMEL_STOP_TRANSPORT, 3), TRYPHOMEL_IDLE, TRYPHOMEL_ORDER_NONE, TRYPHOMEL_ORDER_NONE);
+    step(__LINE__, &up, &down, transfer(TRYPHOMEL_TRANSPORT_FINISHED), TRYPHOMEL_FINISHED, TRYPHOMEL_ORDER_NONE, TRYPHOMEL_ORDER_NONE);
+    step(__LINE__, &down, &up, transfer(TRYPHOMEL_STOP_TRANSPORT), TRYPHOMEL_IDLE, TRYPHOMEL_ORDER_NONE, TRYPHOMEL_ORDER_NONE);
     CHECK(zero(up.offered) && zero(up.running));
     step(__LINE__, &down, &up, ready, TRYPHOMEL_READY, TRYPHOMEL_ORDER_NONE, TRYPHOMEL_ORDER_NONE);
     up = lane_in(TRYPHOMEL_UPSTREAM, TRYPHOMEL_TRANSPORTING);
@@ -295,7 +296,7 @@ static void refusals(void) {
     r = RECEIVES(up, idle, " <Hermes></Hermes>", TRYPHOMEL_MALFORMED, TRYPHOMEL_ORDER_NONE, off);
     CHECK(r.used == 0 && r.place == 10 && notified(r, "malformed message"));
     r = RECEIVES(up, idle, "<Hermes><MachineReady/></Hermes>", TRYPHOMEL_MISSING, TRYPHOMEL_ORDER_NONE, off);
-    CHECK(r.used == 32 && notified(r, "missing attribute"));
+    CHECK(r.used == 32 && notified(r, "missing attribute") && r.message.kind == TRYPHOMEL_UNKNOWN && none_from(&r.message, 0));
     r = RECEIVES(up, idle, "<Hermes><MachineReady FailedBoard=\"3\"/></Hermes>", TRYPHOMEL_BAD_VALUE, TRYPHOMEL_ORDER_NONE, off);
     CHECK(r.used == 48 && notified(r, "bad value"));
     r = RECEIVES(up, TRYPHOMEL_FINISHED, "<Hermes><MachineReady FailedBoard=\"0\"/></Hermes>", TRYPHOMEL_PROTOCOL_ERROR, TRYPHOMEL_ORDER_STOP_NOW, off);
@@ -305,11 +306,11 @@ static void refusals(void) {
     r = RECEIVES(up, TRYPHOMEL_READY, buffer, TRYPHOMEL_ACCEPTED, TRYPHOMEL_ORDER_CANCEL, TRYPHOMEL_TRANSPORTING);
     CHECK(r.message.kind == TRYPHOMEL_START_TRANSPORT && memcmp(r.message.id, OTHER, 36) == 0);
     r = RECEIVES(up, idle, "<Hermes><Foo/></Hermes>", TRYPHOMEL_ACCEPTED, TRYPHOMEL_ORDER_NONE, idle);
-    CHECK(r.message.kind == TRYPHOMEL_UNKNOWN && r.used == 23);
+    CHECK(r.message.kind == TRYPHOMEL_UNKNOWN && r.used == 23 && none_from(&r.message, 0) && no_board(&r.message));
     r = RECEIVES(up, idle, "<Hermes><CheckAlive Type=\"1\" Id=\"7\"/></Hermes>", TRYPHOMEL_ACCEPTED, TRYPHOMEL_ORDER_NONE, idle);
     CHECK(r.written == 46 && memcmp(out, "<Hermes><CheckAlive Type=\"2\" Id=\"7\"/></Hermes>", 46) == 0);
-    CHECK(is_number(r.message.alive.ping, TRYPHOMEL_PING));
-    CHECK(tryphomel_message_check(out, r.written, &c) == TRYPHOMEL_ACCEPTED && is_number(c.message.alive.ping, TRYPHOMEL_PONG));
+    CHECK(is_number(r.message.as.alive.ping, TRYPHOMEL_PING));
+    CHECK(tryphomel_message_check(out, r.written, &c) == TRYPHOMEL_ACCEPTED && is_number(c.message.as.alive.ping, TRYPHOMEL_PONG));
 }
 
 /* An offer whose texts are so long is refused by the lane so; for 0 with this refusal in a smaller buffer. */
@@ -318,8 +319,8 @@ static int offers(const char *by, const char *product, size_t room) {
     tryphomel_message m = offer();
     tryphomel_sent s;
     texts[0] = 0;
-    m.board.by = put(by);
-    m.board.product = put(product);
+    m.as.board.by = put(by);
+    m.as.board.product = put(product);
     memset(out, '#', sizeof out);
     tryphomel_lane_send(&l, &m, texts, strlen(texts), out, room, &s);
     if (s.refusal != TRYPHOMEL_ACCEPTED) CHECK(s.written == 0 && out[0] == '#' && memcmp(&l, &before, sizeof l) == 0);
@@ -336,7 +337,7 @@ static char *repeat(char *to, const char *s, size_t n) {
 static void sending(void) {
     static char a[300], b[300];
     tryphomel_lane l = lane_in(TRYPHOMEL_UPSTREAM, TRYPHOMEL_IDLE);
-    tryphomel_message m = none(TRYPHOMEL_NOTIFICATION);
+    tryphomel_message m = tryphomel_blank(TRYPHOMEL_NOTIFICATION);
     tryphomel_sent s;
     repeat(a, "a", TRYPHOMEL_SHORT_TEXT);
     repeat(b, "b", TRYPHOMEL_LONG_TEXT);
@@ -349,17 +350,17 @@ static void sending(void) {
     repeat(b, "b", TRYPHOMEL_LONG_TEXT + 1);
     CHECK(offers(a, b, sizeof out) == TRYPHOMEL_TEXT_TOO_LONG);
     CHECK(tryphomel_lane_send(&l, &m, "", 0, out, sizeof out, &s) == TRYPHOMEL_MISSING);
-    m.notification.code = tryphomel_is(0x100000001);
-    m.notification.severity = tryphomel_is(1);
-    m.notification.description = tryphomel_part(0, 0);
+    m.as.notification.code = tryphomel_is(0x100000001);
+    m.as.notification.severity = tryphomel_is(1);
+    m.as.notification.description = tryphomel_part(0, 0);
     CHECK(tryphomel_lane_send(&l, &m, "", 0, out, sizeof out, &s) == TRYPHOMEL_BAD_VALUE);
-    m.notification.code = tryphomel_is(1);
+    m.as.notification.code = tryphomel_is(1);
     CHECK(tryphomel_lane_send(&l, &m, "", 0, out, sizeof out, &s) == TRYPHOMEL_ACCEPTED);
     m.kind = 256 + TRYPHOMEL_NOTIFICATION;
     CHECK(tryphomel_lane_send(&l, &m, "", 0, out, sizeof out, &s) == TRYPHOMEL_MAY_NOT_BE_SENT && s.written == 0);
-    m = none(TRYPHOMEL_UNKNOWN);
+    m = tryphomel_blank(TRYPHOMEL_UNKNOWN);
     CHECK(tryphomel_lane_send(&l, &m, "", 0, out, sizeof out, &s) == TRYPHOMEL_MAY_NOT_BE_SENT);
-    m = none(TRYPHOMEL_REVOKE_MACHINE_READY);
+    m = tryphomel_blank(TRYPHOMEL_REVOKE_MACHINE_READY);
     CHECK(tryphomel_lane_send(&l, &m, "", 0, out, sizeof out, &s) == TRYPHOMEL_MAY_NOT_BE_SENT && s.order == TRYPHOMEL_ORDER_NONE);
 }
 
@@ -411,9 +412,9 @@ static void where(void) {
     const uint8_t *text;
     uint64_t place, at, count;
     tryphomel_checked c;
-    tryphomel_words id, none = {0, 0, 0};
+    tryphomel_words id, absent = {0, 0, 0};
     CHECK(tryphomel_message_check(m, strlen(m), &c) == TRYPHOMEL_ACCEPTED);
-    id = c.message.alive.id;
+    id = c.message.as.alive.id;
     CHECK(id.there == 1 && id.start == 24 && id.len == 7);
     CHECK(tryphomel_words_text(id, m, strlen(m), scratch, sizeof scratch, &text, &count) == TRYPHOMEL_ACCEPTED);
     CHECK(text == scratch && count == 3 && memcmp(scratch, "a&b#", 4) == 0);
@@ -424,7 +425,7 @@ static void where(void) {
     CHECK(tryphomel_text((const uint8_t *)m, strlen(m), 1, 24, 1, scratch, 0, &place, &at, &count) == TRYPHOMEL_ACCEPTED && place == TRYPHOMEL_IN_BYTES && at == 24);
     CHECK(tryphomel_text((const uint8_t *)m, strlen(m), 1, 24, 7, scratch, 4, &place, &at, &count) == TRYPHOMEL_ACCEPTED && place == TRYPHOMEL_IN_SCRATCH && at == 0);
     CHECK(tryphomel_text((const uint8_t *)m, strlen(m), 0, 24, 7, scratch, 4, &place, &at, &count) == TRYPHOMEL_MISSING && place == TRYPHOMEL_NOWHERE);
-    CHECK(tryphomel_words_text(none, m, strlen(m), scratch, 4, &text, &count) == TRYPHOMEL_MISSING && text == NULL && count == 0);
+    CHECK(tryphomel_words_text(absent, m, strlen(m), scratch, 4, &text, &count) == TRYPHOMEL_MISSING && text == NULL && count == 0);
     id.start = UINT64_MAX;
     CHECK(tryphomel_words_text(id, m, strlen(m), scratch, 4, &text, &count) == TRYPHOMEL_BAD_VALUE && text == NULL);
     id = tryphomel_part(24, 2);
@@ -445,15 +446,29 @@ static void rooms(void) {
     CHECK(tryphomel_lane_receive(&l, buffer, strlen(buffer), out, TRYPHOMEL_RECEIVE_ROOM - 1, &r) == TRYPHOMEL_NO_ROOM && r.used == 0 && r.written == 0);
     CHECK(tryphomel_lane_receive(&l, buffer, strlen(buffer), out, TRYPHOMEL_RECEIVE_ROOM, &r) == TRYPHOMEL_ACCEPTED && r.written == TRYPHOMEL_RECEIVE_ROOM);
     repeat(texts, "\"", TRYPHOMEL_LONG_TEXT);
-    m.board.by = m.board.order = tryphomel_part(0, TRYPHOMEL_SHORT_TEXT);
-    m.board.product = m.board.top = m.board.bottom = tryphomel_part(0, TRYPHOMEL_LONG_TEXT);
-    m.board.length = m.board.width = m.board.thickness = m.board.speed = m.board.above = m.board.below = m.board.weight = most;
+    m.as.board.by = m.as.board.order = tryphomel_part(0, TRYPHOMEL_SHORT_TEXT);
+    m.as.board.product = m.as.board.top = m.as.board.bottom = tryphomel_part(0, TRYPHOMEL_LONG_TEXT);
+    m.as.board.length = m.as.board.width = m.as.board.thickness = m.as.board.speed = m.as.board.above = m.as.board.below = m.as.board.weight = most;
     CHECK(tryphomel_lane_send(&l, &m, texts, strlen(texts), out, TRYPHOMEL_SEND_ROOM - 1, &s) == TRYPHOMEL_NO_ROOM);
     CHECK(tryphomel_lane_send(&l, &m, texts, strlen(texts), out, TRYPHOMEL_SEND_ROOM, &s) == TRYPHOMEL_ACCEPTED && s.written == TRYPHOMEL_SEND_ROOM);
     texts[0] = 0;
 }
 
+/* Which kinds have a BoardId, and where; the others are kept. */
+static void names(void) {
+    for (uint64_t kind = 0; kind <= TRYPHOMEL_CHECK_ALIVE + 1; kind++) {
+        tryphomel_message m = tryphomel_blank(kind);
+        int first = kind == TRYPHOMEL_BOARD_AVAILABLE || kind == TRYPHOMEL_START_TRANSPORT;
+        int second = kind == TRYPHOMEL_STOP_TRANSPORT || kind == TRYPHOMEL_TRANSPORT_FINISHED;
+        CHECK(m.kind == kind && none_from(&m, 0) && no_board(&m));
+        tryphomel_name_board(&m, ID);
+        CHECK(m.kind == kind && none_from(&m, 2) && tryphomel_has_id(&m) == (first || second) && zero(m.id) == !(first || second));
+        CHECK(m.as.cells[0].there == (uint64_t)first && m.as.cells[1].there == (uint64_t)second);
+    }
+}
+
 int main(void) {
+    names();
     descriptions();
     boards();
     transports();

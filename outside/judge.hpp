@@ -1,4 +1,4 @@
-// What document 01's table says of a message, judged on the tree that a peer read: refusal, kind, and the two values that the check hands to C.
+// What document 01's table says of a message, judged on the tree that a peer read: refusal, kind, and the values that the check hands to C.
 #pragma once
 #include <cstdint>
 #include <map>
@@ -9,29 +9,47 @@
 #include "make.hpp"
 #include "peers.hpp"
 
-struct Verdict {
-    unsigned refusal = 0;
-    uint64_t kind = 0, length = 0, failed = 0;
-    bool operator==(const Verdict &o) const { return refusal == o.refusal && kind == o.kind && length == o.length && failed == o.failed; }
+// What a cell says: whether the value is there; the number that an int, a measure or the features are; the text as read.
+struct Value {
+    uint64_t there = 0, number = 0;
+    std::string text;
+    bool operator==(const Value &o) const { return there == o.there && number == o.number && text == o.text; }
 };
 
-// The root's child: its name, its attributes, and whether one of its children is SupportedFeatures.
+// What is absent is zero, and so are the values behind the last row.
+struct Verdict {
+    unsigned refusal = 0;
+    uint64_t kind = 0;
+    std::vector<Value> values = std::vector<Value>(24);
+    std::string id = std::string(36, '\0');
+    bool operator==(const Verdict &o) const { return refusal == o.refusal && kind == o.kind && values == o.values && id == o.id; }
+};
+
+// The root's child: its name, its attributes, and whether one of its children is SupportedFeatures, with the bits of what the first one holds.
 struct Child {
     std::string name;
     std::map<std::string, std::string> values;
     bool features = false;
+    uint64_t bits = 0;
 };
+
+inline uint64_t feature(const std::string &name) {
+    return name == "FeatureBoardForecast" ? 1 : name == "FeatureQueryBoardInfo" ? 2 : name == "FeatureSendBoardInfo" ? 4 : 0;
+}
 
 inline Child child_of(const Tree &t) {
     Child c;
     unsigned open = 0;
+    bool noted = false;
     std::string name;
     for (size_t at = 0; at < t.size(); at = t.find('\0', at) + 1) {
         std::string rest = t.c_str() + at + 1;
         switch (t[at]) {
             case '<':
                 if (++open == 2) c.name = rest;
-                if (open == 3 && rest == "SupportedFeatures") c.features = true;
+                if (open == 3) noted = rest == "SupportedFeatures" && !c.features;
+                if (open == 3 && noted) c.features = true;
+                if (open == 4 && noted) c.bits |= feature(rest);
                 break;
             case '/': open--; break;
             case ' ': name = rest; break;
@@ -84,6 +102,8 @@ inline unsigned judged(const Column &c, const std::string &v, uint64_t &out) {
     }
 }
 
+inline bool is_text(char type) { return type == 't' || type == 'n' || type == 'v'; }
+
 // "Attributes are tried in table order, each for 4, 5, 6; the first decides". SupportedFeatures is the last item of its row.
 inline Verdict verdict(const Tree &t) {
     Child c = child_of(t);
@@ -93,15 +113,18 @@ inline Verdict verdict(const Tree &t) {
     const Row &row = table()[none.kind++];
     Verdict v = none;
     auto refused = [&](unsigned n) { return none.refusal = n, none; };
-    for (const Column &column : row.columns) {
+    for (size_t i = 0; i < row.columns.size(); i++) {
+        const Column &column = row.columns[i];
         auto found = c.values.find(column.name);
         if (found == c.values.end() && column.may_miss) continue;
         if (found == c.values.end()) return refused(4);
-        uint64_t value = 0;
-        unsigned n = judged(column, found->second, value);
+        unsigned n = judged(column, found->second, v.values[i].number);
         if (n) return refused(n);
-        if (v.kind == 3 && found->first == "Length") v.length = value;
-        if (v.kind == 3 && found->first == "FailedBoard") v.failed = value;
+        v.values[i].there = 1;
+        if (column.type == 'g') v.id = found->second;
+        if (is_text(column.type)) v.values[i].text = found->second;
     }
-    return v.kind == 1 && !c.features ? refused(4) : v;
+    if (v.kind == 1 && !c.features) return refused(4);
+    if (v.kind == 1) v.values[3] = {1, c.bits, ""};
+    return v;
 }

@@ -7,6 +7,7 @@
 #include <vector>
 
 #include "../include/tryphomel.h"
+#include "judge.hpp"
 #include "make.hpp"
 #include "peers.hpp"
 
@@ -76,6 +77,23 @@ inline Bytes text_at(const Bytes &in, size_t at, size_t length) {
     Bytes text((const char *)scratch.data(), count);
     std::fill_n(scratch.begin(), count, 0x5a);
     return text;
+}
+
+// What a cell of a row of that type says.
+inline Value value_in(const Bytes &in, char type, const tryphomel_words &cell) {
+    if (is_text(type) && cell.there) return {cell.there, 0, text_at(in, cell.start, cell.len)};
+    return {cell.there, cell.start, cell.len ? "\1a third number" : ""};
+}
+
+// What a message says, of which its bytes are a part of `in`.
+inline Verdict said_in(const Bytes &in, unsigned refusal, const tryphomel_message &m) {
+    Verdict v;
+    v.refusal = refusal;
+    v.kind = m.kind;
+    v.id.assign((const char *)m.id, sizeof m.id);
+    size_t rows = m.kind >= 1 && m.kind <= table().size() ? table()[m.kind - 1].columns.size() : 0;
+    for (size_t i = 0; i < TRYPHOMEL_CELLS; i++) v.values[i] = value_in(in, i < rows ? table()[m.kind - 1].columns[i].type : 'c', m.as.cells[i]);
+    return v;
 }
 
 inline bool is_glue(char c) { return c == ' ' || c == '\t' || c == '\r' || c == '\n'; }

@@ -1,7 +1,7 @@
 #!/usr/bin/env python3
-"""Reads the messages that writer_cases writes with expat, and compares them with what they were meant to say.
+"""Reads the messages that the cases `write` with expat, and compares them with what they were meant to say.
 
-Usage: python3 outside/written.py FILE, where FILE holds the output of writer_cases. Each line that starts with `<Hermes>` is a message.
+Usage: python3 outside/written.py FILE, where FILE holds the output of `cases`. The line behind one that starts with `write 6000` is a message, unless it was refused.
 Every name, value, child and their order is compared with the list below, which is in plain characters. Prints each disagreement, then a count."""
 
 import sys
@@ -138,7 +138,8 @@ def compare(number, line, meant):
 
 def main():
     with open(sys.argv[1], "rb") as file:
-        lines = [line for line in file.read().split(b"\n") if line.startswith(b"<Hermes>")]
+        every = file.read().split(b"\n")
+    lines = [line for call, line in zip(every, every[1:]) if call.startswith(b"write 6000") and line.startswith(b"<Hermes>")]
     passed = 0
     wrong = []
     for number, (line, meant) in enumerate(zip(lines, MEANT), 1):

@@ -41,11 +41,8 @@ static void put(struct machine *m, const uint8_t *bytes, size_t size) {
 }
 
 static tryphomel_message message(struct machine *m, uint64_t kind) {
-    tryphomel_message to;
-    memset(&to, 0, sizeof to);
-    to.kind = kind;
     m->length = 0;
-    return to;
+    return tryphomel_blank(kind);
 }
 
 static tryphomel_words text(struct machine *m, const char *s) {
@@ -53,11 +50,6 @@ static tryphomel_words text(struct machine *m, const char *s) {
     memcpy(m->texts + m->length, s, strlen(s));
     m->length += strlen(s);
     return w;
-}
-
-static void name(tryphomel_message *to, const uint8_t *id) {
-    to->id_there = 1;
-    memcpy(to->id, id, sizeof to->id);
 }
 
 static void send_it(struct machine *m, const tryphomel_message *to) {
@@ -73,10 +65,10 @@ static void send_it(struct machine *m, const tryphomel_message *to) {
 
 static void describe(struct machine *m) {
     tryphomel_message to = message(m, TRYPHOMEL_SERVICE_DESCRIPTION);
-    to.service.machine = text(m, m->name);
-    to.service.lane = tryphomel_is(1);
-    to.service.version = text(m, "1.6");
-    to.service.features.there = 1;
+    to.as.service.machine = text(m, m->name);
+    to.as.service.lane = tryphomel_is(1);
+    to.as.service.version = text(m, "1.6");
+    to.as.service.features = tryphomel_supports(0);
     send_it(m, &to);
 }
 
@@ -86,22 +78,22 @@ static int upstream(struct machine *m, const tryphomel_received *r) {
         describe(m);
     } else if (r->message.kind == TRYPHOMEL_MACHINE_READY) {
         to = message(m, TRYPHOMEL_BOARD_AVAILABLE);
-        name(&to, ID);
-        to.board.by = text(m, m->name);
-        to.board.failed = tryphomel_is(1);
-        to.board.flipped = tryphomel_is(0);
-        to.board.top = text(m, "R&D 42");
-        to.board.length = tryphomel_is(160500000);
+        tryphomel_name_board(&to, ID);
+        to.as.board.by = text(m, m->name);
+        to.as.board.failed = tryphomel_is(1);
+        to.as.board.flipped = tryphomel_is(0);
+        to.as.board.top = text(m, "R&D 42");
+        to.as.board.length = tryphomel_is(160500000);
         send_it(m, &to);
     } else if (r->order == TRYPHOMEL_ORDER_RUN) {
         to = message(m, TRYPHOMEL_TRANSPORT_FINISHED);
-        name(&to, m->lane.running);
-        to.transfer.state = tryphomel_is(3);
+        tryphomel_name_board(&to, m->lane.running);
+        to.as.transfer.state = tryphomel_is(3);
         send_it(m, &to);
     } else if (r->message.kind == TRYPHOMEL_STOP_TRANSPORT) {
         to = message(m, TRYPHOMEL_CHECK_ALIVE);
-        to.alive.ping = tryphomel_is(TRYPHOMEL_PING);
-        to.alive.id = text(m, "still there?");
+        to.as.alive.ping = tryphomel_is(TRYPHOMEL_PING);
+        to.as.alive.id = text(m, "still there?");
         send_it(m, &to);
     }
     return r->message.kind != TRYPHOMEL_CHECK_ALIVE;
@@ -111,22 +103,22 @@ static int downstream(struct machine *m, const tryphomel_received *r) {
     tryphomel_message to;
     if (r->message.kind == TRYPHOMEL_SERVICE_DESCRIPTION) {
         to = message(m, TRYPHOMEL_MACHINE_READY);
-        to.ready.failed = tryphomel_is(0);
+        to.as.ready.failed = tryphomel_is(0);
         send_it(m, &to);
     } else if (r->message.kind == TRYPHOMEL_BOARD_AVAILABLE) {
         uint8_t scratch[TRYPHOMEL_LONG_TEXT];
         const uint8_t *top;
-        uint64_t count, length = r->message.board.length.value;
-        if (tryphomel_words_text(r->message.board.top, m->in, m->held, scratch, sizeof scratch, &top, &count) == TRYPHOMEL_ACCEPTED)
+        uint64_t count, length = r->message.as.board.length.value;
+        if (tryphomel_words_text(r->message.as.board.top, m->in, m->held, scratch, sizeof scratch, &top, &count) == TRYPHOMEL_ACCEPTED)
             printf("%-10s sees     board %.36s, top barcode %.*s, %.1f mm long\n", m->name, (const char *)r->message.id, (int)count, (const char *)top,
                    (double)length / 1e6);
         to = message(m, TRYPHOMEL_START_TRANSPORT);
-        name(&to, r->message.id);
+        tryphomel_name_board(&to, r->message.id);
         send_it(m, &to);
     } else if (r->message.kind == TRYPHOMEL_TRANSPORT_FINISHED) {
         to = message(m, TRYPHOMEL_STOP_TRANSPORT);
-        name(&to, r->message.id);
-        to.transfer.state = tryphomel_is(3);
+        tryphomel_name_board(&to, r->message.id);
+        to.as.transfer.state = tryphomel_is(3);
         send_it(m, &to);
     }
     return 1;

@@ -21,11 +21,18 @@ pub record Behind (s g x : Bytes) : Type 0 where
   pub glue : Glue g
   pub most : leads x ≡ false
 
--- "A beginning is *open* if some message, size put aside, starts with what follows its leading glue."
+-- some message, size put aside, starts with x
 pub record Open (x : Bytes) : Type 0 where
   pub rest : Bytes
   pub reading : Tree
   pub message : Message (x ++ rest) reading
+
+-- "A beginning is *open* if some message, size put aside, starts with what follows its leading glue."
+pub record OpenBeginning (s : Bytes) : Type 0 where
+  pub g : Bytes
+  pub x : Bytes
+  pub behind : Behind s g x
+  pub is-open : Open x
 
 -- "Only a message that starts at that byte is meant here, not one inside another."
 pub record EndedIn (x : Bytes) : Type 0 where

@@ -3,13 +3,12 @@ use mathlib.Core.Path.{_≡_}
 use mathlib.Core.List.{List, [], _∷_, _++_}
 use mathlib.Core.Bool.{Bool, true, _&&_, not}
 use Prim.Native.Nat.{ℕ, _≤_}
-use Prim.Native.Char.{code}
 use lib.ListN.{length}
-use Rattle.grammar.specs.Bytes.{Bytes, some, among}
+use Rattle.grammar.specs.Bytes.{Bytes, text, joined, nonEmpty, among}
 use Rattle.grammar.specs.Limits.{ATTRIBUTES}
 use Rattle.grammar.specs.Glue.{Glue}
 use Rattle.grammar.specs.Name.{Name}
-use Rattle.grammar.specs.Value.{Item, spellValue, isQuote, GoodValue}
+use Rattle.grammar.specs.Value.{Item, spellValue, quoted, isQuote, GoodValue}
 
 -- "glue before each and allowed around `=`; value in single or double quotes"
 pub record Attribute : Type 0 where
@@ -21,7 +20,7 @@ pub record Attribute : Type 0 where
   pub value : List Item
 
 abbrev pub spellAttribute : Attribute → Bytes
-spellAttribute a = a .before ++ (a .name ++ (a .mid ++ code "=" ∷ (a .after ++ a .quote ∷ (spellValue (a .value) ++ a .quote ∷ []))))
+spellAttribute a = joined (a .before ∷ a .name ∷ a .mid ∷ text "=" ∷ a .after ∷ quoted (a .quote) (spellValue (a .value)) ∷ [])
 
 abbrev pub spellAttributes : List Attribute → Bytes
 spellAttributes [] = []
@@ -29,7 +28,7 @@ spellAttributes (a ∷ l) = spellAttribute a ++ spellAttributes l
 
 pub record GoodAttribute (a : Attribute) : Type 0 where
   pub before : Glue (a .before)
-  pub apart : some (a .before) ≡ true
+  pub apart : nonEmpty (a .before) ≡ true
   pub name : Name (a .name)
   pub mid : Glue (a .mid)
   pub after : Glue (a .after)

@@ -1,5 +1,6 @@
 -- Byte strings, and the tests on them that the definitions use.
-use mathlib.Core.List.{List, [], _∷_}
+use mathlib.Core.Path.{_≡_}
+use mathlib.Core.List.{List, [], _∷_, _++_}
 use mathlib.Core.Bool.{Bool, true, false, _&&_, _||_}
 use Prim.Native.Nat.{ℕ}
 use Prim.Native.Char.{code}
@@ -13,6 +14,12 @@ Bytes = List ℕ
 abbrev pub text : String → Bytes
 text none = []
 text (c then s) = code c ∷ text s
+
+-- parts one behind the other
+abbrev pub joined : List Bytes → Bytes
+joined [] = []
+joined (x ∷ []) = x
+joined (x ∷ y ∷ l) = x ++ joined (y ∷ l)
 
 -- lo to hi, both included
 unfoldable pub within : ℕ → ℕ → ℕ → Bool
@@ -32,9 +39,9 @@ every t [] = true
 every t (b ∷ r) = t b && every t r
 
 -- at least one byte
-abbrev pub some : Bytes → Bool
-some [] = false
-some (b ∷ r) = true
+abbrev pub nonEmpty : Bytes → Bool
+nonEmpty [] = false
+nonEmpty (b ∷ r) = true
 
 -- the same bytes
 abbrev pub same : Bytes → Bytes → Bool
@@ -47,6 +54,10 @@ same (x ∷ xs) (y ∷ ys) = eqb x y && same xs ys
 abbrev pub among : List Bytes → Bytes → Bool
 among [] n = false
 among (x ∷ l) n = same x n || among l n
+
+-- every number in it is a byte: it can be sent
+abbrev pub ByteString : Bytes → Type 0
+ByteString w = every (λ b. leb b 255) w ≡ true
 
 -- as many bytes as tests, and each passes its own
 abbrev pub fits : List (ℕ → Bool) → Bytes → Bool

@@ -1,13 +1,12 @@
 -- Elements and their content.
 use mathlib.Core.List.{List, [], _∷_, _++_}
 use Prim.Native.Nat.{ℕ, suc}
-use Prim.Native.Char.{code}
-use Rattle.grammar.specs.Bytes.{Bytes, text}
+use Rattle.grammar.specs.Bytes.{Bytes, text, joined}
 use Rattle.grammar.specs.Glue.{Glue}
 use Rattle.grammar.specs.Name.{Name}
 use Rattle.grammar.specs.Value.{readValue}
 use Rattle.grammar.specs.Attribute.{Attribute, spellAttributes, GoodAttributes}
-use Rattle.grammar.specs.Filler.{below, Filler, spellFiller, GoodFiller}
+use Rattle.grammar.specs.Filler.{Filler, spellFiller, GoodFiller}
 use Rattle.grammar.specs.Tree.{Pair, Tree, tree, Forest, no-trees, tree-then}
 
 -- a start tag or an empty tag, but for its brackets
@@ -29,20 +28,20 @@ mutual
 
 -- "glue may stand before `>` and `/>`"
 abbrev pub spellTag : Tag → Bytes → Bytes
-spellTag t bracket = code "<" ∷ (t .name ++ (spellAttributes (t .attributes) ++ (t .trail ++ bracket)))
+spellTag t bracket = joined (text "<" ∷ t .name ∷ spellAttributes (t .attributes) ∷ t .trail ∷ bracket ∷ [])
 
 -- "End tag and start tag have the same name; glue may stand before `>`"
 abbrev pub spellEnd : Bytes → Bytes → Bytes
-spellEnd name g = code "<" ∷ code "/" ∷ (name ++ (g ++ text ">"))
+spellEnd name g = joined (text "</" ∷ name ∷ g ∷ text ">" ∷ [])
 
 abbrev mutual
   pub spellElement : Element → Bytes
   spellElement (empty t) = spellTag t (text "/>")
-  spellElement (full t c g) = spellTag t (text ">") ++ (spellContent c ++ spellEnd (t .name) g)
+  spellElement (full t c g) = joined (spellTag t (text ">") ∷ spellContent c ∷ spellEnd (t .name) g ∷ [])
 
   pub spellContent : Content → Bytes
   spellContent (bare f) = spellFiller f
-  spellContent (child f e c) = spellFiller f ++ (spellElement e ++ spellContent c)
+  spellContent (child f e c) = joined (spellFiller f ∷ spellElement e ∷ spellContent c ∷ [])
 
 pub record GoodTag (t : Tag) : Type 0 where
   pub name : Name (t .name)
@@ -56,8 +55,8 @@ mutual
     good-full : {d : ℕ} {t : Tag} {c : Content} {g : Bytes} → GoodTag t → GoodContent d c → Glue g → GoodElement d (full t c g)
 
   pub data GoodContent : ℕ → Content → Type 0 where
-    good-bare : {d : ℕ} {f : Filler} → GoodFiller below f → GoodContent d (bare f)
-    good-child : {d : ℕ} {f : Filler} {e : Element} {c : Content} → GoodFiller below f → GoodElement d e → GoodContent (suc d) c → GoodContent (suc d) (child f e c)
+    good-bare : {d : ℕ} {f : Filler} → GoodFiller f → GoodContent d (bare f)
+    good-child : {d : ℕ} {f : Filler} {e : Element} {c : Content} → GoodFiller f → GoodElement d e → GoodContent (suc d) c → GoodContent (suc d) (child f e c)
 
 -- "attributes in order, each value as read"
 abbrev pub readAttributes : List Attribute → List Pair

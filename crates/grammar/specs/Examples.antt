@@ -1,25 +1,26 @@
 -- Worked examples: what the definitions say of bytes, values, names, depths and one whole message. They hold by computation.
 use mathlib.Core.Path.{_≡_, refl}
 use mathlib.Core.List.{List, [], _∷_, _++_}
-use mathlib.Core.Bool.{true, false, _&&_, _||_}
-use Prim.Native.Nat.{ℕ, zero, suc, _≤_}
+use mathlib.Core.Bool.{Bool, true, false, _&&_, _||_, not}
+use Prim.Native.Nat.{ℕ, zero, suc, _+_, _*_, _≤_}
 use Prim.Native.Char.{code}
 use Prim.Native.String.{String}
 use native.Mathlib.Omega.{arith}
 use lib.ListN.{length}
-use Rattle.grammar.specs.Bytes.{Bytes, text, within, digit, some}
-use Rattle.grammar.specs.Limits.{NAME}
+use Rattle.grammar.specs.Bytes.{Bytes, text, within, digit, every, nonEmpty}
+use Rattle.grammar.specs.Limits.{MESSAGE, NAME, ATTRIBUTES, DEPTH}
 use Rattle.grammar.specs.Glue.{isGlue, Glue}
 use Rattle.grammar.specs.Name.{letter, nameStart, nameByte, shaped, Name}
 use Rattle.grammar.specs.Character.{isChar, utf8}
 use Rattle.grammar.specs.Reference.{amp, lt, gt, quot, apos, named, decimal, hexadecimal, hexDigit, worth, GoodReference, good-named, good-decimal, good-hexadecimal, readReference}
 use Rattle.grammar.specs.Value.{raw, ref, isQuote, banned, good-raw, good-ref, good-last, good-item, readItem, readValue}
 use Rattle.grammar.specs.Attribute.{Attribute, GoodAttribute, good-none, good-each, fresh, GoodAttributes}
-use Rattle.grammar.specs.Filler.{Standing, Filler, GoodFiller}
+use Rattle.grammar.specs.Filler.{Filler, GoodFiller}
 use Rattle.grammar.specs.Tree.{tree, no-trees, tree-then}
 use Rattle.grammar.specs.Element.{Tag, Element, empty, full, Content, bare, child, GoodTag, GoodElement, good-empty, good-full, GoodContent, good-bare, good-child}
-use Rattle.grammar.specs.Declaration.{Setting, absent, good-absent}
+use Rattle.grammar.specs.Declaration.{Setting, absent, isVersion, isEncoding, isStandalone, good-absent}
 use Rattle.grammar.specs.Message.{Root, Layout, declared, spellLayout, GoodRoot, GoodLayout, good-declared, readLayout, Message}
+use Rattle.grammar.specs.Answer.{answerNumber, endsAt, moreFrom, malformedAt, tooLongFrom}
 
 -- characters: both ends of each range, and what stands beside them
 pub chars : isChar 9 && isChar 10 && isChar 13 && isChar 0x20 && isChar 0xD7FF && isChar 0xE000 && isChar 0xFFFD && isChar 0x10000 && isChar 0x10FFFF ≡ true
@@ -34,6 +35,45 @@ no-chars = refl
 pub utf8-lengths : utf8 0x41 ++ (utf8 0xE9 ++ (utf8 0x20AC ++ utf8 0x1F600)) ≡ 0x41 ∷ 0xC3 ∷ 0xA9 ∷ 0xE2 ∷ 0x82 ∷ 0xAC ∷ 0xF0 ∷ 0x9F ∷ 0x98 ∷ 0x80 ∷ []
 unfolding utf8
 utf8-lengths = refl
+
+-- no byte passes
+abbrev none-of : (ℕ → Bool) → Bytes → Bool
+none-of t w = every (λ b. not (t b)) w
+
+-- byte classes: both ends of each range, and what stands beside them
+pub classes :
+    (every letter (text "AZaz") ≡ true)
+    × (none-of letter (text "@[`{") ≡ true)
+    × (every digit (text "09") ≡ true)
+    × (none-of digit (text "/:") ≡ true)
+    × (every hexDigit (text "09AFaf") ≡ true)
+    × (none-of hexDigit (text "/:@G`g") ≡ true)
+    × (every isQuote (text "\"'") ≡ true)
+    × (none-of isQuote (text "`<") ≡ true)
+unfolding letter digit hexDigit isQuote within
+classes = (refl, refl, refl, refl, refl, refl, refl, refl)
+
+-- what may not stand raw in double quotes: `<`, `&` and the quote
+pub raw-bytes : (every (banned (code "\"")) (text "<&\"") ≡ true) × (none-of (banned (code "\"")) (text ">'a") ≡ true)
+unfolding banned
+raw-bytes = (refl, refl)
+
+-- the limits
+pub limits : (MESSAGE ≡ 64 * 1024) × (NAME ≡ 8 * 8) × (ATTRIBUTES ≡ 4 * 8) × (DEPTH ≡ 3 + 3)
+limits = (refl, refl, refl, refl)
+
+pub answer-numbers : (answerNumber (endsAt 0 0) ≡ 0) × (answerNumber (moreFrom 0) ≡ 1) × (answerNumber (malformedAt 0 0) ≡ 2) × (answerNumber (tooLongFrom 0) ≡ 3)
+answer-numbers = (refl, refl, refl, refl)
+
+-- the words of a declaration
+pub versions : (isVersion (text "1.0") && isVersion (text "1.1") ≡ true) × (isVersion (text "1.2") || isVersion (text "2.0") || isVersion (text "1.") || isVersion (text "1.00") ≡ false)
+versions = (refl, refl)
+
+pub encodings : (isEncoding (text "UTF-8") && isEncoding (text "utf-8") && isEncoding (text "uTf-8") ≡ true) × (isEncoding (text "UTF-16") || isEncoding (text "UTF8") || isEncoding (text "VTF-8") ≡ false)
+encodings = (refl, refl)
+
+pub standalones : (isStandalone (text "yes") && isStandalone (text "no") ≡ true) × (isStandalone (text "YES") || isStandalone (text "") || isStandalone (text "yess") ≡ false)
+standalones = (refl, refl)
 
 -- glue
 pub all-glue : Glue (text " \t\r\n")
@@ -54,6 +94,9 @@ longest-name = record { shape = refl; one = refl; short = omega arith }
 
 pub too-long-name : ¬ Name (name64 ++ text "a")
 too-long-name n = let h = n .short in omega arith
+
+pub no-empty-name : ¬ Name []
+no-empty-name n = let h : _≡_ {A = ℕ} 0 1 = let e = n .one in cc in omega arith
 
 pub no-name-starts : nameStart (code "0") || nameStart (code "-") || nameStart (code ":") || nameByte (code "/") || nameByte 0xC3 ≡ false
 unfolding nameByte nameStart letter digit within
@@ -111,13 +154,13 @@ rootOf e = record { attributes = []; trail = []; before = none; inner = e; after
 abbrev five : Element
 five = around "A" (around "B" (around "C" (around "D" (empty (bareTag "E")))))
 
-good-none-filler : {s : Standing} → GoodFiller s none
+good-none-filler : GoodFiller none
 good-none-filler = record { glue = refl }
 
 no-attributes : GoodAttributes []
 no-attributes = record { few = omega arith; fresh-names = refl; each = good-none }
 
-good-tag : (n : String) → shaped (text n) ≡ true → some (text n) ≡ true → length (text n) ≤ NAME → GoodTag (bareTag n)
+good-tag : (n : String) → shaped (text n) ≡ true → nonEmpty (text n) ≡ true → length (text n) ≤ NAME → GoodTag (bareTag n)
 good-tag n h k l = record { name = record { shape = h; one = k; short = l }; attributes = no-attributes; trail = refl }
 
 good-around : {d : ℕ} {e : Element} (n : String) → GoodTag (bareTag n) → GoodElement d e → GoodElement (suc d) (around n e)
@@ -216,3 +259,14 @@ copies (suc n) = timestamp ∷ copies n
 
 pub too-many : ¬ GoodAttributes (copies 33)
 too-many g = let h = g .few in omega arith
+
+pub not-too-many : length (copies 32) ≤ ATTRIBUTES
+not-too-many = omega arith
+
+-- between elements stands glue, and no text and no comment
+pub fillers : GoodFiller (record { glue = text " \t\r\n" }) × ¬ GoodFiller (record { glue = text "x" }) × ¬ GoodFiller (record { glue = text "<!---->" })
+unfolding isGlue
+fillers = (record { glue = refl }, λ f. no-glue-there (f .glue), λ f. no-glue-there (f .glue))
+  where
+    no-glue-there : false ≡ true → ⊥
+    no-glue-there e = let z : _≡_ {A = ℕ} 0 1 = cc in omega arith

@@ -1,13 +1,12 @@
 -- Which byte strings are messages, and what each reads as.
 use mathlib.Core.Path.{_≡_}
-use mathlib.Core.List.{List, _∷_, _++_}
+use mathlib.Core.List.{List, [], _∷_}
 use Prim.Native.Nat.{_-_}
-use Prim.Native.Char.{code}
-use Rattle.grammar.specs.Bytes.{Bytes, text}
+use Rattle.grammar.specs.Bytes.{Bytes, text, joined}
 use Rattle.grammar.specs.Limits.{DEPTH}
 use Rattle.grammar.specs.Glue.{Glue}
 use Rattle.grammar.specs.Attribute.{Attribute, spellAttributes, GoodAttributes}
-use Rattle.grammar.specs.Filler.{prolog, root, Filler, spellFiller, GoodFiller}
+use Rattle.grammar.specs.Filler.{Filler, spellFiller, GoodFiller}
 use Rattle.grammar.specs.Tree.{Tree, tree, no-trees, tree-then}
 use Rattle.grammar.specs.Element.{Element, spellEnd, spellElement, GoodElement, readAttributes, readElement}
 use Rattle.grammar.specs.Declaration.{Declaration, spellDeclaration, GoodDeclaration}
@@ -31,25 +30,35 @@ hermes = text "Hermes"
 
 abbrev pub spellRoot : Root → Bytes
 spellRoot r =
-    code "<" ∷ (hermes ++ (spellAttributes (r .attributes) ++ (r .trail ++ code ">" ∷ (spellFiller (r .before) ++ (spellElement (r .inner) ++ (spellFiller (r .after) ++ spellEnd hermes (r .shut)))))))
+    joined
+    (text "<"
+    ∷ hermes
+    ∷ spellAttributes (r .attributes)
+    ∷ r .trail
+    ∷ text ">"
+    ∷ spellFiller (r .before)
+    ∷ spellElement (r .inner)
+    ∷ spellFiller (r .after)
+    ∷ spellEnd hermes (r .shut)
+    ∷ [])
 
 -- "A message starts at `<` and ends with the `>` that closes the root."
 abbrev pub spellLayout : Layout → Bytes
 spellLayout (plain r) = spellRoot r
-spellLayout (declared d f r) = spellDeclaration d ++ (spellFiller f ++ spellRoot r)
+spellLayout (declared d f r) = joined (spellDeclaration d ∷ spellFiller f ∷ spellRoot r ∷ [])
 
--- the root and its child are two of the open elements
+-- Of "at most six open elements" the root and its child are two: inside the child four more may be open, one in another.
 pub record GoodRoot (r : Root) : Type 0 where
   pub attributes : GoodAttributes (r .attributes)
   pub trail : Glue (r .trail)
-  pub before : GoodFiller root (r .before)
+  pub before : GoodFiller (r .before)
   pub inner : GoodElement (DEPTH - 2) (r .inner)
-  pub after : GoodFiller root (r .after)
+  pub after : GoodFiller (r .after)
   pub shut : Glue (r .shut)
 
 pub data GoodLayout : Layout → Type 0 where
   good-plain : {r : Root} → GoodRoot r → GoodLayout (plain r)
-  good-declared : {d : Declaration} {f : Filler} {r : Root} → GoodDeclaration d → GoodFiller prolog f → GoodRoot r → GoodLayout (declared d f r)
+  good-declared : {d : Declaration} {f : Filler} {r : Root} → GoodDeclaration d → GoodFiller f → GoodRoot r → GoodLayout (declared d f r)
 
 abbrev pub readRoot : Root → Tree
 readRoot r = tree hermes (readAttributes (r .attributes)) (tree-then (readElement (r .inner)) no-trees)

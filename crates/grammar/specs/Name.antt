@@ -6,7 +6,7 @@ use Prim.Native.Nat.{ℕ, _≤_}
 use Prim.Native.Char.{code}
 use lib.ListN.{length}
 use lib.Dec.{eqb}
-use Rattle.grammar.specs.Bytes.{Bytes, within, digit, every, some}
+use Rattle.grammar.specs.Bytes.{Bytes, within, digit, every, nonEmpty}
 use Rattle.grammar.specs.Limits.{NAME}
 
 unfoldable pub letter : ℕ → Bool
@@ -27,5 +27,5 @@ shaped (b ∷ n) = nameStart b && every nameByte n
 -- "Names: 1 to 64 bytes; first a letter or `_`, then letters, digits, `_ - . :` (ASCII)."
 pub record Name (n : Bytes) : Type 0 where
   pub shape : shaped n ≡ true
-  pub one : some n ≡ true
+  pub one : nonEmpty n ≡ true
   pub short : length n ≤ NAME

@@ -6,7 +6,7 @@ use Prim.Native.Nat.{ℕ, _+_, _-_, _*_, _≤_}
 use Prim.Native.Char.{code}
 use lib.ListN.{length}
 use lib.Dec.{leb}
-use Rattle.grammar.specs.Bytes.{Bytes, text, within, digit, every, some}
+use Rattle.grammar.specs.Bytes.{Bytes, text, within, digit, every, nonEmpty}
 use Rattle.grammar.specs.Character.{isChar}
 
 -- "`&` only in the five named references and in `&#` with 1 to 7 decimal or `&#x` with 1 to 6 hex digits"
@@ -44,7 +44,7 @@ number base v (b ∷ n) = number base (v * base + worth b) n
 -- "1 to 7 decimal" or "1 to 6 hex digits, naming such a character"
 pub record Digits (isDigit : ℕ → Bool) (base most : ℕ) (n : Bytes) : Type 0 where
   pub digits : every isDigit n ≡ true
-  pub one : some n ≡ true
+  pub one : nonEmpty n ≡ true
   pub short : length n ≤ most
   pub names : isChar (number base 0 n) ≡ true
 

@@ -26,6 +26,10 @@ spellValue (i ∷ l) = spellItem i ++ spellValue l
 unfoldable pub isQuote : ℕ → Bool
 isQuote q = eqb (code "\"") q || eqb (code "'") q
 
+-- between two of one kind
+abbrev pub quoted : ℕ → Bytes → Bytes
+quoted q w = q ∷ (w ++ q ∷ [])
+
 -- "No raw `<`; `&` only in [references]"; and the quote in use ends the value
 unfoldable pub banned : ℕ → ℕ → Bool
 banned q c = eqb (code "<") c || (eqb (code "&") c || eqb q c)

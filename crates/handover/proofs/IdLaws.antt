@@ -1,5 +1,5 @@
 -- The id of each kind, and what asks for a reply.
-use mathlib.Core.Path.{_≡_, refl, sym, ap, _∙_}
+use mathlib.Core.Path.{_≡_, refl, ap, _∙_}
 use mathlib.Core.List.{[], _∷_}
 use mathlib.Core.Bool.{Bool, true, false, _||_, cond}
 use Prim.Native.Nat.{ℕ, _≤_, _<_}
@@ -7,13 +7,13 @@ use native.Mathlib.Omega.{arith}
 use lib.Dec.{eqb}
 use borrow.Author.Tests.{ne-eqb, eq-eqb, eqb-true, eqb-false}
 use Rattle.lane.specs.Record.{noId, ended, kept, received}
+use Rattle.lane.specs.declared.Event.{Event}
 use Rattle.lane.specs.declared.Lane.{Lane}
 use Rattle.lane.specs.declared.Moved.{Moved}
-use Rattle.grammar.specs.Bytes.{Bytes}
 use Rattle.writing.proofs.EscapeLaws.{Unnamed}
 use Rattle.message.specs.declared.values.Whole.the-variants.{Absent as NoWhole, Present as IsWhole}
 use Rattle.message.specs.declared.kinds.Message.{Message}
-use Rattle.handover.specs.Ids.{boardId}
+use Rattle.handover.specs.Ids.{boardId, eventOf}
 use Rattle.handover.specs.Receiving.{asksReply, movedBy}
 
 between : (k : ℕ) → (k ≡ 7 → ⊥) → (k ≡ 8 → ⊥) → (k ≡ 9 → ⊥) → 7 ≤ k → k < 10 → ⊥
@@ -65,9 +65,9 @@ module _ (m : Message) where
   asks-other h = rw (ne-eqb (m .kind) 10 h)
 
   module _ (l : Lane) (n : ℕ) where
-    pub moved-on : n ≡ 0 → {b : Bytes} {r : Moved} → b ≡ boardId m → r ≡ received l (m .kind) b → r ≡ movedBy l n m
+    pub moved-on : n ≡ 0 → {e : Event} {r : Moved} → e ≡ eventOf m → r ≡ received l e → r ≡ movedBy l n m
     unfolding movedBy
-    moved-on z e f = f ∙ ap (received l (m .kind)) e ∙ rw (eq-eqb n 0 z)
+    moved-on z e f = f ∙ ap (received l) e ∙ rw (eq-eqb n 0 z)
 
     pub moved-kept : n ≡ 1 → kept l 1 ≡ movedBy l n m
     unfolding movedBy

@@ -5,9 +5,12 @@ pub mod SendLaws
 pub mod ListedLaws
 pub mod Theorems
 pub mod Orders
+pub mod Totals
 pub mod StepForStep
 pub mod SentReceived
 pub mod BenchCalls
 pub mod TailFree
 pub mod OneHandover
+pub mod WholeHandover
+pub mod Witnesses
 pub mod Excluded

@@ -5,7 +5,7 @@ use mathlib.Core.Bool.{Bool, true, false, _&&_, not, cond}
 use Prim.Native.Nat.{ℕ, zero, suc}
 use lib.ListN.{length}
 use lib.Dec.{leb}
-use Rattle.grammar.specs.Bytes.{Bytes, some, same, within}
+use Rattle.grammar.specs.Bytes.{Bytes, nonEmpty, same, within}
 use Rattle.grammar.specs.Tree.{Pair, Tree, tree, Forest, no-trees, tree-then}
 use Rattle.number.specs.Whole.{Whole as Int, noInt, int, intOf}
 use Rattle.number.specs.Positive.{Number, noNumber, number, numberOf}
@@ -14,13 +14,13 @@ use Rattle.number.specs.Version.{versionOf}
 use Rattle.lane.specs.Chart.{among}
 use Rattle.value.specs.declared.text.Span.{Span}
 use Rattle.value.specs.declared.text.Words.the-variants.{Absent as NoWords, Present as IsWords}
-use Rattle.message.specs.Table.{Row, Form, words, someWords, whole, guid, version, positive, features}
-use Rattle.message.specs.Says.{Value, Result, present, absent, refused, aText, anInt, anId, millionths, noted, notes, when, limited, without, ranged, measured, judged, given, nameOf, childrenOf, featured, tried, refusalIn, first, refusalOf}
+use Rattle.table.specs.Table.{Row, Form, words, someWords, whole, guid, version, positive, features}
+use Rattle.table.specs.Says.{Value, Result, present, absent, refused, aText, anInt, anId, millionths, noted, notes, when, limited, without, ranged, measured, judged, given, nameOf, childrenOf, featured, tried, refusalIn, first, refusalOf}
 use Rattle.message.specs.Fields.{Field, none, aWords, aWhole, aMeasure, aGuid, aFeatures}
 use Rattle.message.specs.declared.values.Whole.the-variants.{Absent as NoWhole, Present as IsWhole}
 use Rattle.message.specs.declared.values.Measure.the-variants.{Absent as NoMeasure, Present as IsMeasure}
 use Rattle.message.specs.declared.values.Features.{Features}
-use Rattle.writer.specs.Meant.{sendable, textAt, textMeant, wholeMeant, measureMeant, idMeant, featuresMeant, meantBy, meantOf, firstIn, MOST}
+use Rattle.meant.specs.Meant.{sendable, textAt, textMeant, wholeMeant, measureMeant, idMeant, featuresMeant, meantBy, meantOf, firstIn, MOST}
 
 -- "4, 5, 6", and 0
 abbrev pub Listed : ℕ → Type 0
@@ -61,7 +61,7 @@ measured-fine (number n) = present-fine (millionths n)
 judged-fine : (t : Form) (v : Bytes) → Fine (judged t v)
 unfolding judged
 judged-fine (words n) v = either-fine (leb (length v) n) (present-fine (aText v)) long-fine
-judged-fine (someWords n) v = either-fine (leb (length v) n) (when-fine (some v) (aText v)) long-fine
+judged-fine (someWords n) v = either-fine (leb (length v) n) (when-fine (nonEmpty v) (aText v)) long-fine
 judged-fine (whole lo hi) v = ranged-fine lo hi (intOf v)
 judged-fine guid v = when-fine (guidOf v) (anId v)
 judged-fine version v = when-fine (versionOf v) (aText v)
@@ -101,7 +101,7 @@ table-listed (r ∷ l) t = first-listed (refusalIn (tried r t)) (refusalOf l t) 
 -- in sending
 text-fine : (t : Form) (texts : Bytes) (p : Span) → Fine (textMeant t texts p)
 text-fine (words n) texts p = either-fine (leb (p .len) n) (when-fine (sendable texts p) (aText (textAt texts p))) long-fine
-text-fine (someWords n) texts p = either-fine (leb (p .len) n) (when-fine (sendable texts p && some (textAt texts p)) (aText (textAt texts p))) long-fine
+text-fine (someWords n) texts p = either-fine (leb (p .len) n) (when-fine (sendable texts p && nonEmpty (textAt texts p)) (aText (textAt texts p))) long-fine
 text-fine (whole lo hi) texts p = bad-fine
 text-fine guid texts p = bad-fine
 text-fine version texts p = when-fine (sendable texts p && versionOf (textAt texts p)) (aText (textAt texts p))

@@ -1,38 +1,37 @@
 -- "two makers must see one handover": what one lane sends, the lane of the other side accepts, and both are left in the same state, with the same ids and order.
 use mathlib.Core.Path.{_≡_, refl, sym, ap, subst, _∙_}
 use mathlib.Core.List.{List, [], _∷_, _++_}
-use mathlib.Core.Bool.{Bool, true, false, _||_, cond}
+use mathlib.Core.Bool.{Bool, true, false, cond}
 use mathlib.Core.Logic.{_⊎_, inl, inr, ⊎-elim}
-use Prim.Native.Nat.{ℕ, zero, suc, _≤_, _<_}
+use Prim.Native.Nat.{ℕ, zero, suc, _≤_}
 use native.Mathlib.Omega.{arith}
 use lib.ListN.{length, take}
 use lib.Dec.{T, eqb, eqb→eq}
 use borrow.Author.Tests.{eqb-true, eqb-false, eq-eqb, ne-eqb}
-use Rattle.exact.specs.Chain.{clash}
 use Rattle.number.proofs.Tests.{cases}
 use Rattle.grammar.specs.Bytes.{Bytes}
 use Rattle.grammar.specs.Tree.{Tree}
-use Rattle.lane.specs.Names.{U, D, StartTransport}
-use Rattle.lane.specs.Chart.{pick, both, either, among, isFree, mayPass, mayName, Received as IsReceived, Sent as IsSent, chart, byRows, next}
-use Rattle.lane.specs.Record.{noId, fresh, offeredIn, runningIn, startOrder, carriesOwn, answer, other, received, sent}
+use Rattle.lane.specs.Names.{U, D}
+use Rattle.lane.specs.Chart.{both, isFree, mayName, Received as IsReceived, Sent as IsSent, chart, byRows, next}
+use Rattle.lane.specs.Record.{fresh, carriesOwn, other, stepIn, stepOut, received, sent}
 use Rattle.lane.specs.Laws.{by-rows, received-by, sent-by}
+use Rattle.lane.specs.declared.Event.{Event}
 use Rattle.lane.specs.declared.Lane.{Lane}
 use Rattle.lane.specs.declared.Moved.{Moved}
 use Rattle.lane.specs.declared.chart.Step.{Step}
 use Rattle.lane.specs.declared.chart.Step.the-variants.{To, NoTransition}
 use Rattle.value.specs.declared.id.Guid.{Guid}
 use Rattle.value.specs.declared.text.Words.{Words}
-use Rattle.message.specs.Table.{Row, guid, table, rowsOf}
-use Rattle.message.specs.Says.{Result, present, refused, anId, refusalIn, first, without, childOf, saidOf, valuesOf, tried}
-use Rattle.message.specs.Fields.{idIn, fieldOf, fieldsIn, messageFrom}
-use Rattle.message.specs.Checked.{Checks, messageOf}
+use Rattle.table.specs.Table.{guid, table, rowsOf}
+use Rattle.table.specs.Says.{Result, present, refused, anId, refusalIn, first, without, childOf, saidOf, valuesOf}
+use Rattle.message.specs.Fields.{idIn, fieldOf, fieldsIn, messageFrom, fieldsOf}
+use Rattle.message.specs.Checked.{messageOf}
 use Rattle.message.specs.declared.checking.Checked.{Checked}
 use Rattle.message.specs.declared.kinds.Message.{Message}
 use Rattle.number.specs.Guid.{guidOf}
-use Rattle.writer.specs.Meant.{fieldsOf, idMeant, meantBy, meantOf, firstIn, refusalOf}
-use Rattle.writer.specs.Written.{writtenOf}
-use Rattle.handover.specs.Ids.{boardId}
-use Rattle.handover.specs.Receiving.{movedBy, Receives}
+use Rattle.meant.specs.Meant.{idMeant, meantBy, meantOf, firstIn, refusalOf}
+use Rattle.handover.specs.Ids.{boardId, eventOf}
+use Rattle.handover.specs.Receiving.{Receives}
 use Rattle.handover.specs.Sending.{Sends}
 use Rattle.handover.specs.Mirror.{Mirrored}
 use Rattle.handover.specs.declared.receiving.Received.{Received}
@@ -160,26 +159,26 @@ module _ {l l′ : Lane} (w : Mirrored l l′) where
   their-sender : other (l′ .side) ≡ l .side
   their-sender = ap other (w .theirs) ∙ ⊎-elim (λ e. rw e refl) (λ e. rw e refl) (w .ours)
 
-  same-own : (k : ℕ) (id : Bytes) → carriesOwn l′ k id ≡ carriesOwn l k id
-  same-own k id = rw (w .offered, w .running) refl
+  same-own : (e : Event) → carriesOwn l′ e ≡ carriesOwn l e
+  same-own e = rw (w .offered, w .running) refl
 
   -- a step of the sender's is a step of the receiver's
-  same-step : (k : ℕ) (id : Bytes) (n : ℕ) → next (l .state) k (l .side) IsSent (carriesOwn l k id) ≡ To n
-      → (received l′ k id .refusal ≡ 0) × Mirrored (sent l k id .lane) (received l′ k id .lane) × (received l′ k id .order ≡ sent l k id .order)
-  same-step k id n e =
-      let f : next (l′ .state) k (other (l′ .side)) IsReceived (carriesOwn l′ k id) ≡ To n = rw (w .state, their-sender, same-own k id) (sent-taken (l .state) k (l .side) (carriesOwn l k id) n e) in
-      let a = sent-by l k id (To n) e in
-      let b = received-by l′ k id (To n) f in
-      rw (a, b) (refl, record { ours = w .ours; theirs = w .theirs; state = refl; offered = rw (w .offered) refl; running = rw (w .running) refl }, rw (w .state, same-own k id) refl)
+  same-step : (e : Event) (n : ℕ) → stepOut l e ≡ To n
+      → (received l′ e .refusal ≡ 0) × Mirrored (sent l e .lane) (received l′ e .lane) × (received l′ e .order ≡ sent l e .order)
+  same-step e n q =
+      let f : stepIn l′ e ≡ To n = rw (w .state, their-sender, same-own e) (sent-taken (l .state) (e .kind) (l .side) (carriesOwn l e) n q) in
+      let a = sent-by l e (To n) q in
+      let b = received-by l′ e (To n) f in
+      rw (a, b) (refl, record { ours = w .ours; theirs = w .theirs; state = refl; offered = rw (w .offered) refl; running = rw (w .running) refl }, rw (w .state, same-own e) refl)
 
-  sent-step : (k : ℕ) (id : Bytes) → sent l k id .refusal ≡ 0
-      → (received l′ k id .refusal ≡ 0) × Mirrored (sent l k id .lane) (received l′ k id .lane) × (received l′ k id .order ≡ sent l k id .order)
-  sent-step k id z = go (next (l .state) k (l .side) IsSent (carriesOwn l k id)) refl
+  sent-step : (e : Event) → sent l e .refusal ≡ 0
+      → (received l′ e .refusal ≡ 0) × Mirrored (sent l e .lane) (received l′ e .lane) × (received l′ e .order ≡ sent l e .order)
+  sent-step e z = go (stepOut l e) refl
     where
-      go : (st : Step) → next (l .state) k (l .side) IsSent (carriesOwn l k id) ≡ st
-          → (received l′ k id .refusal ≡ 0) × Mirrored (sent l k id .lane) (received l′ k id .lane) × (received l′ k id .order ≡ sent l k id .order)
-      go (To n) e = same-step k id n e
-      go NoTransition e = absurd (let x : 8 ≡ 0 = sym (ap (λ (v : Moved). v .refusal) (sent-by l k id NoTransition e)) ∙ z in omega arith)
+      go : (st : Step) → stepOut l e ≡ st
+          → (received l′ e .refusal ≡ 0) × Mirrored (sent l e .lane) (received l′ e .lane) × (received l′ e .order ≡ sent l e .order)
+      go (To n) q = same-step e n q
+      go NoTransition q = absurd (let x : 8 ≡ 0 = sym (ap (λ (v : Moved). v .refusal) (sent-by l e NoTransition q)) ∙ z in omega arith)
 
 -- what was read names the board that was sent
 read-id : {s : Bytes} (m : Message) (texts : Bytes) {n : ℕ} {c : Checked} → ReadAs s m texts n c → refusalOf m texts ≡ 0 → boardId (c .message) ≡ boardId m
@@ -189,6 +188,13 @@ read-id m texts a z =
     let k : saidOf (h .reading) .kind ≡ m .kind = sym (ap (λ (m : Message). m .kind) (h .fields)) ∙ a .kind in
     let v : valuesOf (rowsOf (m .kind)) (childOf (h .reading)) ≡ meantOf (rowsOf (m .kind)) (fieldsOf m) texts = subst (λ (k : ℕ). valuesOf (rowsOf k) (childOf (h .reading)) ≡ meantOf (rowsOf (m .kind)) (fieldsOf m) texts) k (a .values) in
     ap boardId (h .fields) ∙ same-id m texts (h .place) (childOf (h .reading)) z v (saidOf (h .reading) .kind) (sym k)
+
+-- and is the same for the chart
+read-event : {s : Bytes} (m : Message) (texts : Bytes) {n : ℕ} {c : Checked} → ReadAs s m texts n c → refusalOf m texts ≡ 0 → eventOf (c .message) ≡ eventOf m
+read-event m texts a z = alike (a .kind) (read-id m texts a z)
+  where
+    alike : {k k′ : ℕ} {b b′ : Bytes} → k ≡ k′ → b ≡ b′ → _≡_ {A = Event} (record { kind = k; id = b }) (record { kind = k′; id = b′ })
+    alike e f = rw (e, f) refl
 
 -- the message is accepted, with the same order, and the lanes mirror each other again
 pub one-handover : {l l′ : Lane} {m : Message} {texts old new old′ new′ : Bytes} {r : Sent} {r′ : Received} (rest : Bytes)
@@ -207,6 +213,6 @@ one-handover {l} {l′} {m} {texts} {old} {new} {old′} {new′} {r} {r′} res
     go (all.may-not b n e f) = absurd (let x : 8 ≡ 0 = sym (ap (λ (r : Sent). r .refusal) e) ∙ z in omega arith)
     go (all.lacks-room b c h e f) = absurd (let x : 7 ≡ 0 = sym (ap (λ (r : Sent). r .refusal) e) ∙ z in omega arith)
     go (all.goes b c h e f) =
-        let s = sent-step w (m .kind) (boardId m) c in
-        let v : all.moved q ≡ received l′ (m .kind) (boardId m) = all.moved-on l′ (q .checked .refusal) (q .checked .message) (a .refusal) ∙ ap (λ (k : ℕ). received l′ k (boardId (q .checked .message))) (a .kind) ∙ ap (received l′ (m .kind)) (read-id m texts a b) in
+        let s = sent-step w (eventOf m) c in
+        let v : all.moved q ≡ received l′ (eventOf m) = all.moved-on l′ (q .checked .refusal) (q .checked .message) (a .refusal) ∙ ap (received l′) (read-event m texts a b) in
         (all.told-refusal q fitted ∙ ap (λ (v : Moved). v .refusal) v ∙ s .0, rw (ap (λ (r : Sent). r .lane) e, all.told-lane q fitted ∙ ap (λ (v : Moved). v .lane) v) (s .1), all.told-order q fitted ∙ ap (λ (v : Moved). v .order) v ∙ s .2 ∙ sym (ap (λ (r : Sent). r .order) e), all.told-used q fitted ∙ a .end)

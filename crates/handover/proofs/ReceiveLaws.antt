@@ -14,8 +14,8 @@ use Rattle.message.specs.Checked.{Checks}
 use Rattle.message.specs.Fields.{blank}
 use Rattle.message.specs.declared.checking.Checked.{Checked}
 use Rattle.message.specs.declared.kinds.Message.{Message}
-use Rattle.writer.specs.Notices.{notice}
-use Rattle.emit.specs.declared.writing_out.Written.{Written as Count}
+use Rattle.meant.specs.Notices.{notice}
+use Rattle.writes.specs.declared.messages.Written.{Written as Count}
 use Rattle.replies.specs.First.{First}
 use Rattle.replies.specs.Replies.{Replies}
 use Rattle.replies.proofs.Theorems.{reply-written}

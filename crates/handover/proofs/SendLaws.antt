@@ -1,28 +1,29 @@
 -- Each answer of sending.
 use mathlib.Core.Path.{_≡_, refl, sym, ap, _∙_}
-use mathlib.Core.List.{List, [], _∷_, _++_}
-use mathlib.Core.Bool.{Bool, true, false, _||_, cond}
-use mathlib.Core.Logic.{_⊎_, inl, inr, ⊎-elim}
-use Prim.Native.Nat.{ℕ, _≤_, _<_}
+use mathlib.Core.List.{_++_}
+use mathlib.Core.Bool.{Bool, true, false, cond}
+use mathlib.Core.Logic.{⊎-elim}
+use Prim.Native.Nat.{ℕ}
 use native.Mathlib.Omega.{arith}
 use lib.ListN.{length, drop}
 use lib.Dec.{T, eqb, leb}
-use borrow.Author.Tests.{ne-eqb, eq-eqb, le-leb, lt-leb, eqb-true}
-use Rattle.lane.specs.Names.{Unknown, Notification, CheckAlive, MayNotBeSent}
-use Rattle.lane.specs.Chart.{both, either, pick, among, isFree, Sent as IsSent, chart, byRows, next}
-use Rattle.lane.specs.Record.{carriesOwn, answer, sent, kept as keptMoved}
-use Rattle.lane.specs.Laws.{by-rows, next-cases, sent-by, both-parts}
+use borrow.Author.Tests.{ne-eqb, eq-eqb, eqb-true}
+use Rattle.lane.specs.Chart.{both, isFree, Sent as IsSent, chart, next}
+use Rattle.lane.specs.Record.{carriesOwn, stepOut}
+use Rattle.lane.specs.Laws.{by-rows, next-cases, sent-by}
 use Rattle.lane.specs.declared.Lane.{Lane}
 use Rattle.lane.specs.declared.Moved.{Moved}
 use Rattle.lane.specs.declared.chart.Step.{Step}
 use Rattle.lane.specs.declared.chart.Step.the-variants.{To, NoTransition}
 use Rattle.grammar.specs.Bytes.{Bytes, within}
 use Rattle.message.specs.declared.kinds.Message.{Message}
-use Rattle.writer.specs.Meant.{refusalOf}
-use Rattle.writer.specs.Written.{writtenOf}
-use Rattle.emit.specs.Writes as emits
-use Rattle.emit.specs.declared.writing_out.Written.{Written}
-use Rattle.handover.specs.Ids.{boardId}
+use Rattle.table.specs.Table.{isKind}
+use Rattle.table.specs.Theorems.{kinds-are}
+use Rattle.meant.specs.Meant.{refusalOf}
+use Rattle.meant.specs.Written.{writtenOf}
+use Rattle.writes.specs.Writes as emits
+use Rattle.writes.specs.declared.messages.Written.{Written}
+use Rattle.handover.specs.Ids.{eventOf}
 use Rattle.handover.specs.Sending.{kept, movedBy, mayNot, answerOf, bufferOf, Sends}
 use Rattle.handover.specs.declared.sending.Sent.{Sent}
 
@@ -60,12 +61,12 @@ sendable-kind s k u same n q =
     (λ p. within-both k (by-rows kindRow s k u n IsSent chart tt (p .0)))
     (next-cases s k u IsSent same n q)
 
-pub accepted-kind : (l : Lane) (m : Message) → movedBy l m .refusal ≡ 0 → within 1 10 (m .kind) ≡ true
-accepted-kind l m z = go (next (l .state) (m .kind) (l .side) IsSent (carriesOwn l (m .kind) (boardId m))) refl
+pub accepted-kind : (l : Lane) (m : Message) → movedBy l m .refusal ≡ 0 → isKind (m .kind) ≡ true
+accepted-kind l m z = go (stepOut l (eventOf m)) refl
   where
-    go : (st : Step) → next (l .state) (m .kind) (l .side) IsSent (carriesOwn l (m .kind) (boardId m)) ≡ st → within 1 10 (m .kind) ≡ true
-    go (To n) e = sendable-kind (l .state) (m .kind) (l .side) (carriesOwn l (m .kind) (boardId m)) n e
-    go NoTransition e = absurd (let x : 8 ≡ 0 = sym (ap (λ (v : Moved). v .refusal) (sent-by l (m .kind) (boardId m) NoTransition e)) ∙ z in omega arith)
+    go : (st : Step) → stepOut l (eventOf m) ≡ st → isKind (m .kind) ≡ true
+    go (To n) e = kinds-are (m .kind) ∙ sendable-kind (l .state) (m .kind) (l .side) (carriesOwn l (eventOf m)) n e
+    go NoTransition e = absurd (let x : 8 ≡ 0 = sym (ap (λ (v : Moved). v .refusal) (sent-by l (eventOf m) NoTransition e)) ∙ z in omega arith)
 
 -- the refusal of a message without a transition
 module _ (m : Message) (texts : Bytes) {r : ℕ} (e : r ≡ refusalOf m texts) where
@@ -93,7 +94,7 @@ module _ (l : Lane) (m : Message) (texts : Bytes) {v : Moved} (ev : v ≡ movedB
     moved : movedBy l m .refusal ≡ 0
     moved = sym (ap (λ (v : Moved). v .refusal) ev) ∙ z
 
-    kind-good : within 1 10 (m .kind) ≡ true
+    kind-good : isKind (m .kind) ≡ true
     kind-good = accepted-kind l m moved
 
     -- what writing answered, by its two tests

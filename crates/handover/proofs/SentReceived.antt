@@ -7,28 +7,28 @@ use native.Mathlib.Omega.{arith}
 use lib.ListN.{length, take, drop}
 use lib.Seq.{take-append-seam}
 use lib.Dec.{eqb, leb}
-use borrow.Author.Tests.{leb-true, leb-false, le-leb, eq-eqb}
+use borrow.Author.Tests.{leb-false, le-leb, eq-eqb}
 use Rattle.exact.specs.Chain.{clash}
-use Rattle.grammar.specs.Bytes.{Bytes, within}
+use Rattle.grammar.specs.Bytes.{Bytes}
 use Rattle.grammar.specs.Limits.{MESSAGE}
 use Rattle.grammar.specs.Tree.{Tree}
 use Rattle.grammar.specs.Message.{Message as IsMessage, readLayout}
 use Rattle.grammar.specs.Answer.{Answer, Answers, endsAt, moreFrom, malformedAt, tooLongFrom}
 use Rattle.model.specs.Cuts.{piece-behind}
-use Rattle.model.specs.Tests.{and-left, and-right}
 use Rattle.model.specs.Theorems.{one-reading, answers-only}
 use Rattle.lane.specs.declared.Lane.{Lane}
-use Rattle.message.specs.Table.{rowsOf}
-use Rattle.message.specs.Says.{childOf, saidOf}
-use Rattle.message.specs.Fields.{messageFrom}
-use Rattle.message.specs.Checked.{Checks, ends, more, malformed, too-long, checkedAs}
+use Rattle.value.specs.declared.text.Words.{Words}
+use Rattle.table.specs.Table.{isKind, rowsOf}
+use Rattle.table.specs.Says.{childOf, saidOf}
+use Rattle.message.specs.Fields.{messageFrom, fieldsOf}
+use Rattle.message.specs.Checked.{Checks, ends, more, malformed, too-long, messageOf, placesIn, checkedAs}
 use Rattle.message.specs.Handed.{HandedOut}
 use Rattle.message.specs.declared.checking.Checked.{Checked}
 use Rattle.message.specs.declared.kinds.Message.{Message}
-use Rattle.message.proofs.Theorems.{handed-out}
-use Rattle.writer.specs.Meant.{fieldsOf, meantOf, refusalOf}
-use Rattle.writer.specs.Written.{writtenOf}
-use Rattle.writer.proofs.Theorems.{reads-back, written-small}
+use Rattle.reads.proofs.Theorems.{handed-out}
+use Rattle.meant.specs.Meant.{meantOf, refusalOf}
+use Rattle.meant.specs.Written.{writtenOf}
+use Rattle.meant.proofs.Theorems.{reads-back, written-small}
 use Rattle.replies.specs.Replies.{SameId}
 use Rattle.replies.proofs.Theorems.{reply-reads-back}
 use Rattle.handover.specs.Receiving.{asksReply, Owes, nothing-yet, a-notice, a-reply, no-reply, Receives}
@@ -44,6 +44,9 @@ pub record Finds (w : Bytes) (t : Tree) (c : Checked) : Type 0 where
   pub end : c .end ≡ length w
   pub kind : c .message .kind ≡ saidOf t .kind
   pub refusal : c .refusal ≡ saidOf t .refusal
+  -- where its raw values stand, and what is handed out
+  pub place : Bytes → Words
+  pub message : c .message ≡ messageOf (saidOf t .kind) place (childOf t)
 
 ended-at : {w : Bytes} {t : Tree} (rest : Bytes) → IsMessage w t → length w ≤ MESSAGE → Answers (w ++ rest) (endsAt 0 (length w))
 ended-at {w} {t} rest m h = record { g = []; bytes = w; rest = rest; reading = t; behind = piece-behind rest refl m refl; message = m; fits = h; starts = refl; ends = omega arith }
@@ -66,6 +69,8 @@ finds {w} {t} rest m h {c} (ends start end a l k e) z =
       end = ap (λ (c : Checked). c .end) e ∙ qe;
       kind = ap (λ (c : Checked). c .message .kind) e ∙ rw (eq-eqb (saidOf (readLayout l) .refusal) 0 f) (ap (λ (t : Tree). saidOf t .kind) y);
       refusal = ap (λ (c : Checked). c .refusal) e ∙ ap (λ (t : Tree). saidOf t .refusal) y;
+      place = placesIn start l;
+      message = ap (λ (c : Checked). c .message) e ∙ rw (eq-eqb (saidOf (readLayout l) .refusal) 0 f) (ap (λ (t : Tree). messageOf (saidOf t .kind) (placesIn start l) (childOf t)) y);
     }
 finds {w} {t} rest m h (more start a e) z = absurd (let q : moreFrom start ≡ endsAt 0 (length w) = answers-only (w ++ rest) (moreFrom start) (endsAt 0 (length w)) a (ended-at rest m h) in let y : _≡_ {A = ℕ} 0 1 = cc in omega arith)
 finds {w} {t} rest m h (malformed start place a e) z = absurd (let q : malformedAt start place ≡ endsAt 0 (length w) = answers-only (w ++ rest) (malformedAt start place) (endsAt 0 (length w)) a (ended-at rest m h) in let y : _≡_ {A = ℕ} 0 1 = cc in omega arith)
@@ -82,18 +87,14 @@ pub record ReadAs (s : Bytes) (m : Message) (texts : Bytes) (n : ℕ) (c : Check
   -- .. whose values are those that were meant
   pub values : saidOf (handed .reading) .values ≡ meantOf (rowsOf (m .kind)) (fieldsOf m) texts
 
-within-parts : (k : ℕ) → within 1 10 k ≡ true → (1 ≤ k) × (k ≤ 10)
-unfolding within
-within-parts k e = (leb-true 1 k (and-left (leb 1 k) (leb k 10) e), leb-true k 10 (and-right (leb 1 k) (leb k 10) e))
-
-pub written-is-read : (m : Message) (texts : Bytes) → 1 ≤ m .kind → m .kind ≤ 10 → refusalOf m texts ≡ 0 → (rest : Bytes) {c : Checked} → Checks (writtenOf m texts ++ rest) c → ReadAs (writtenOf m texts ++ rest) m texts (length (writtenOf m texts)) c
-written-is-read m texts lo hi z rest {c} x =
-    let (t, i, k, n, v) = reads-back m texts lo hi z in
-    let b = written-small m texts lo hi z in
-    let f = finds rest i (omega arith) x n in
+pub written-is-read : (m : Message) (texts : Bytes) → isKind (m .kind) ≡ true → refusalOf m texts ≡ 0 → (rest : Bytes) {c : Checked} → Checks (writtenOf m texts ++ rest) c → ReadAs (writtenOf m texts ++ rest) m texts (length (writtenOf m texts)) c
+written-is-read m texts i z rest {c} x =
+    let (t, a, k, n, v) = reads-back m texts i z in
+    let b = written-small m texts i z in
+    let f = finds rest a (omega arith) x n in
     let h = handed-out x (f .refusal ∙ n) in
     let w : take (c .end - c .start) (drop (c .start) (writtenOf m texts ++ rest)) ≡ writtenOf m texts = ap (λ (n : ℕ). take (n - c .start) (drop (c .start) (writtenOf m texts ++ rest))) (f .end) ∙ ap (λ (n : ℕ). take (length (writtenOf m texts) - n) (drop n (writtenOf m texts ++ rest))) (f .start) ∙ first-of (writtenOf m texts) rest in
-    let q : t ≡ h .reading = h .one t (subst (λ (b : Bytes). IsMessage b t) (sym w) i) in
+    let q : t ≡ h .reading = h .one t (subst (λ (b : Bytes). IsMessage b t) (sym w) a) in
     record { refusal = f .refusal ∙ n; start = f .start; end = f .end; kind = f .kind ∙ k; handed = h; values = sym (ap (λ (t : Tree). saidOf t .values) q) ∙ v }
 
 -- what `send` put first in a buffer
@@ -109,10 +110,9 @@ sent-is-received {l} {m} {texts} {old} {new} {r} p z = go (all.decides p)
     go (all.may-not a n e f) = absurd (let x : 8 ≡ 0 = sym (ap (λ (r : Sent). r .refusal) e) ∙ z in omega arith)
     go (all.lacks-room a b h e f) = absurd (let x : 7 ≡ 0 = sym (ap (λ (r : Sent). r .refusal) e) ∙ z in omega arith)
     go (all.goes a b h e f) =
-        let k = within-parts (m .kind) (accepted-kind l m b) in
         let n : r .written ≡ length (writtenOf m texts) = ap (λ (r : Sent). r .written) e in
         let w : take (r .written) new ≡ writtenOf m texts = ap (λ (k : ℕ). take k new) n ∙ ap (take (length (writtenOf m texts))) f ∙ take-append-seam (writtenOf m texts) (drop (length (writtenOf m texts)) old) in
-        (w, λ rest c x. subst (λ (k : ℕ). ReadAs (take (r .written) new ++ rest) m texts k c) (sym n) (subst (λ (b : Bytes). ReadAs (b ++ rest) m texts (length (writtenOf m texts)) c) (sym w) (written-is-read m texts (k .0) (k .1) a rest (subst (λ (b : Bytes). Checks (b ++ rest) c) w x))))
+        (w, λ rest c x. subst (λ (k : ℕ). ReadAs (take (r .written) new ++ rest) m texts k c) (sym n) (subst (λ (b : Bytes). ReadAs (b ++ rest) m texts (length (writtenOf m texts)) c) (sym w) (written-is-read m texts (accepted-kind l m b) a rest (subst (λ (b : Bytes). Checks (b ++ rest) c) w x))))
 
 -- T2.L10: the reply that receiving wrote reads as a CheckAlive of Type 2 with the same Id, or no Id
 pub receive-reply : {l : Lane} {s old new : Bytes} {r : Received} → Receives l s old new r → r .refusal ≡ 0 → asksReply (r .message) ≡ true

@@ -14,14 +14,14 @@ use Rattle.value.specs.Text.{Text}
 use Rattle.value.specs.declared.text.Span.{Span}
 use Rattle.value.specs.declared.text.Words.{Words}
 use Rattle.value.specs.declared.text.Words.the-variants.{Absent as NoWords, Present as IsWords}
-use Rattle.message.specs.Table.{words, table, rowsOf}
-use Rattle.message.specs.Says.{judged, given, tried, refusalIn, first, refusalOf, childOf, saidOf}
+use Rattle.table.specs.Table.{words, table, rowsOf}
+use Rattle.table.specs.Says.{judged, given, tried, refusalIn, first, refusalOf, childOf, saidOf}
 use Rattle.message.specs.Fields.{fieldOf, fieldsIn, messageFrom, aliveFrom, only, blank}
 use Rattle.message.specs.Checked.{Checks, ends, more, malformed, too-long, checkedAs, unread, messageOf}
 use Rattle.message.specs.Handed.{Has, has-here, has-later, attributesOf, ReadsAt, HandedOut}
 use Rattle.message.specs.declared.checking.Checked.{Checked}
 use Rattle.message.specs.declared.kinds.Message.{Message}
-use Rattle.message.proofs.Theorems.{handed-out}
+use Rattle.reads.proofs.Theorems.{handed-out}
 use Rattle.handover.specs.Receiving.{Sound}
 
 no-place : (s : Bytes) {w : Words} → w ≡ NoWords → Sound s w

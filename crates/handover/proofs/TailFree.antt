@@ -1,16 +1,16 @@
 -- T3.13: with a message that ends, nothing behind its end matters: to checking, and to receiving.
-use mathlib.Core.Path.{_≡_, refl, sym, ap, subst, _∙_}
-use mathlib.Core.List.{List, [], _∷_, _++_}
-use mathlib.Core.Bool.{Bool, true, false, _&&_, cond}
-use mathlib.Core.Logic.{_⊎_, inl, inr, ⊎-elim}
-use Prim.Native.Nat.{ℕ, _+_, _-_, _≤_, _<_}
+use mathlib.Core.Path.{_≡_, sym, ap, subst, _∙_}
+use mathlib.Core.List.{List, _++_}
+use mathlib.Core.Bool.{true}
+use mathlib.Core.Logic.{⊎-elim}
+use Prim.Native.Nat.{ℕ, _+_, _-_, _≤_}
 use native.Mathlib.Omega.{arith}
 use lib.ListN.{length, take, drop, length-drop}
 use lib.Seq.{drop-append-le, take-append-le, take-all}
 use lib.Dec.{eqb}
 use borrow.Author.Tests.{eqb-true}
 use Rattle.exact.specs.Chain.{clash}
-use Rattle.grammar.specs.Bytes.{Bytes, text, same}
+use Rattle.grammar.specs.Bytes.{Bytes, text}
 use Rattle.grammar.specs.Tree.{Pair, Tree}
 use Rattle.grammar.specs.Message.{Laid, Message as IsMessage}
 use Rattle.grammar.specs.Answer.{Answers, endsAt}
@@ -22,17 +22,17 @@ use Rattle.value.specs.Quotes.{text-one}
 use Rattle.value.specs.declared.text.Span.{Span}
 use Rattle.value.specs.declared.text.Words.{Words}
 use Rattle.value.specs.declared.text.Words.the-variants.{Absent as NoWords, Present as IsWords}
-use Rattle.message.specs.Says.{childOf, saidOf}
+use Rattle.table.specs.Says.{childOf, saidOf}
 use Rattle.message.specs.Fields.{messageFrom}
 use Rattle.message.specs.Checked.{Checks, ends, more, malformed, too-long, checkedAs}
 use Rattle.message.specs.Handed.{Has, has-here, has-later, attributesOf, HandedOut}
 use Rattle.message.specs.declared.checking.Checked.{Checked}
 use Rattle.message.specs.declared.kinds.Message.{Message}
-use Rattle.message.proofs.Theorems.{check-only, handed-out}
-use Rattle.writer.specs.Written.{writtenOf}
+use Rattle.reads.proofs.Theorems.{check-only, handed-out}
+use Rattle.meant.specs.Written.{writtenOf}
 use Rattle.replies.specs.First.{firstIn}
 use Rattle.replies.specs.Replies.{sameOf, Reply, same-id, no-id}
-use Rattle.handover.specs.Receiving.{asksReply, movedBy, Owes, nothing-yet, a-notice, a-reply, no-reply, noRoom, answerOf, Receives}
+use Rattle.handover.specs.Receiving.{asksReply, movedBy, Owes, answerOf, Receives}
 use Rattle.handover.specs.declared.receiving.Received.{Received}
 use Rattle.handover.proofs.SoundLaws.{place-of-id}
 use Rattle.handover.proofs.Theorems as all
@@ -98,29 +98,11 @@ reply-alike h (same-id p e l v t k f) (no-id e′ f′) = not-both e′ e
 reply-alike h (no-id e f) (same-id p′ e′ l′ v′ t′ k′ f′) = not-both e e′
 reply-alike h (no-id e f) (no-id e′ f′) = f ∙ sym f′
 
-owes-alike : {a b d d′ : Bytes} {m : Message} {n : ℕ} → (n ≡ 0 → asksReply m ≡ true → Reply a (m .alive .id) d → Reply b (m .alive .id) d′ → d ≡ d′) → Owes a m n d → Owes b m n d′ → d ≡ d′
-owes-alike h (nothing-yet e f) (nothing-yet e′ f′) = f ∙ sym f′
-owes-alike h (nothing-yet e f) (a-notice y z f′) = absurd (z e)
-owes-alike h (nothing-yet e f) (a-reply z a r) = absurd (omega arith)
-owes-alike h (nothing-yet e f) (no-reply z a f′) = absurd (omega arith)
-owes-alike h (a-notice y z f) (nothing-yet e f′) = absurd (z e)
-owes-alike h (a-notice y z f) (a-notice y′ z′ f′) = f ∙ sym f′
-owes-alike h (a-notice y z f) (a-reply e a r) = absurd (y e)
-owes-alike h (a-notice y z f) (no-reply e a f′) = absurd (y e)
-owes-alike h (a-reply z a r) (nothing-yet e f′) = absurd (omega arith)
-owes-alike h (a-reply e a r) (a-notice y z f) = absurd (y e)
-owes-alike h (a-reply z a r) (a-reply z′ a′ r′) = h z a r r′
-owes-alike h (a-reply z a r) (no-reply z′ a′ f) = clash (sym a ∙ a′)
-owes-alike h (no-reply z a f) (nothing-yet e f′) = absurd (omega arith)
-owes-alike h (no-reply e a f) (a-notice y z f′) = absurd (y e)
-owes-alike h (no-reply z a f) (a-reply z′ a′ r) = clash (sym a′ ∙ a)
-owes-alike h (no-reply z a f) (no-reply z′ a′ f′) = f ∙ sym f′
-
 asks-kind : (m : Message) → asksReply m ≡ true → m .kind ≡ 10
 unfolding asksReply
 asks-kind m e = eqb-true (m .kind) 10 (and-left (eqb (m .kind) 10) _ e)
 
--- "Only the first message in the input counts": the bytes behind those that are used change nothing
+-- the bytes behind those that are used change nothing
 pub receive-tail-free : {l : Lane} (s r r′ : Bytes) {old new new′ : Bytes} {x x′ : Received} → Receives l (s ++ r) old new x → x .used ≡ length s → 1 ≤ length s → Receives l (s ++ r′) old new′ x′ → (x ≡ x′) × (new ≡ new′)
 receive-tail-free {l} s r r′ {old} {new} {new′} {x} {x′} p h k q = ⊎-elim yes (λ f. absurd (let u = ap (λ (x : Received). x .used) (all.fits-not p f) in omega arith)) (all.room p)
   where
@@ -148,7 +130,7 @@ receive-tail-free {l} s r r′ {old} {new} {new′} {x} {x′} p h k q = ⊎-eli
 
     due-alike : length (p .due) ≤ length old → p .due ≡ q .due
     due-alike f =
-        owes-alike (λ z a u v. reply-alike (λ w e t t′ i j. id-alike (s ++ r) (s ++ r′) (p .checks) (there f) (all.moved-zero l (p .checked .refusal) (p .checked .message) z) (cut-alike f) (asks-kind (p .checked .message) a) w e t t′ i j) u v) (p .owes)
+        all.owes-alike (λ z a u v. reply-alike (λ w e t t′ i j. id-alike (s ++ r) (s ++ r′) (p .checks) (there f) (all.moved-zero l (p .checked .refusal) (p .checked .message) z) (cut-alike f) (asks-kind (p .checked .message) a) w e t t′ i j) u v) (p .owes)
         (subst (λ (c : Checked). Owes (s ++ r′) (c .message) (movedBy l (c .refusal) (c .message) .refusal) (q .due)) (sym (same-check f)) (q .owes))
 
     yes : length (p .due) ≤ length old → (x ≡ x′) × (new ≡ new′)

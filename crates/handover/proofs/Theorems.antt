@@ -1,39 +1,42 @@
 -- The theorems of receiving and sending, for a reader to find.
 use mathlib.Core.Path.{_≡_, refl, sym, ap, subst, _∙_}
 use mathlib.Core.List.{List, [], _∷_, _++_}
-use mathlib.Core.Bool.{Bool, true, false, cond}
+use mathlib.Core.Bool.{Bool, true, false}
 use mathlib.Core.Logic.{_⊎_, inl, inr, ⊎-elim, _↔_}
-use Prim.Native.Nat.{ℕ, _+_, _≤_, _<_}
+use Prim.Native.Nat.{ℕ, _≤_, _<_}
 use native.Mathlib.Omega.{arith}
-use lib.ListN.{length, take, drop, length-append, length-drop}
-use lib.Seq.{drop-append-seam, take-append-seam}
+use lib.ListN.{length, drop, length-append, length-drop}
+use lib.Seq.{drop-append-seam}
 use lib.Dec.{eqb, leb}
 use borrow.Author.Tests.{ne-eqb, eq-eqb, eqb-true, eqb-false, leb-true, leb-false, le-leb, lt-leb}
 use Rattle.exact.specs.Chain.{clash}
-use Rattle.grammar.specs.Bytes.{Bytes, text}
+use Rattle.grammar.specs.Bytes.{Bytes}
 use Rattle.grammar.specs.Message.{readLayout}
 use Rattle.number.proofs.Tests.{cases}
 use Rattle.lane.specs.Names.{NoOrder}
-use Rattle.lane.specs.Chart.{either, among, Received as IsReceived, Sent as IsSent, next}
-use Rattle.lane.specs.Record.{blank as lostOf, carriesOwn, ended, kept as keptMoved, answer, other, received, sent}
-use Rattle.lane.specs.Laws.{received-by, sent-by}
-use Rattle.lane.specs.IdsZero.{IdsZero, fresh-ids-zero, received-ids-zero, sent-ids-zero}
+use Rattle.lane.specs.Chart.{either, among}
+use Rattle.lane.specs.Record.{ended, kept as keptMoved, stepIn, received}
+use Rattle.lane.specs.Laws.{received-by}
+use Rattle.lane.specs.IdsZero.{IdsZero, lost-ids-zero, received-ids-zero, sent-ids-zero}
+use Rattle.lane.specs.declared.Event.{Event}
 use Rattle.lane.specs.declared.Lane.{Lane}
 use Rattle.lane.specs.declared.Moved.{Moved}
 use Rattle.lane.specs.declared.chart.Step.{Step}
 use Rattle.lane.specs.declared.chart.Step.the-variants.{To, NoTransition}
-use Rattle.message.specs.Table.{rowsOf}
-use Rattle.message.specs.Says.{childOf, saidOf}
+use Rattle.table.specs.Table.{rowsOf}
+use Rattle.table.specs.Says.{childOf, saidOf}
 use Rattle.message.specs.Checked.{Checks, ends, more, malformed, too-long}
 use Rattle.message.specs.declared.checking.Checked.{Checked}
 use Rattle.message.specs.declared.kinds.Message.{Message}
-use Rattle.message.proofs.Theorems.{check-only}
-use Rattle.writer.specs.Meant.{fieldsOf, refusalOf}
-use Rattle.writer.specs.Written.{writtenOf}
-use Rattle.writer.specs.Notices.{description, notice}
+use Rattle.reads.proofs.Theorems.{check-only}
+use Rattle.message.specs.Fields.{fieldsOf}
+use Rattle.meant.specs.Meant.{refusalOf}
+use Rattle.meant.specs.Written.{writtenOf}
+use Rattle.meant.specs.Notices.{description, notice}
 use Rattle.replies.specs.First.{firstIn}
+use Rattle.replies.specs.Replies.{Reply}
 use Rattle.replies.proofs.Theorems.{reply-one, reply-long}
-use Rattle.handover.specs.Ids.{boardId}
+use Rattle.handover.specs.Ids.{boardId, eventOf}
 use Rattle.handover.specs.Receiving.{asksReply, movedBy, Owes, nothing-yet, a-notice, a-reply, no-reply, noRoom, told, answerOf, Receives}
 use Rattle.handover.specs.Sending as sending
 use Rattle.handover.specs.Sending.{Sends}
@@ -45,31 +48,35 @@ use Rattle.handover.proofs.ListedLaws.{Listed, table-listed, meant-list
 pub id-only : (m : Message) {r r′ : Bytes} → r ≡ boardId m → r′ ≡ boardId m → r ≡ r′
 id-only m e f = e ∙ sym f
 
+-- what is owed for two inputs is the same, if a reply is
+pub owes-alike : {a b d d′ : Bytes} {m : Message} {n : ℕ} → (n ≡ 0 → asksReply m ≡ true → Reply a (m .alive .id) d → Reply b (m .alive .id) d′ → d ≡ d′) → Owes a m n d → Owes b m n d′ → d ≡ d′
+owes-alike h (nothing-yet e f) (nothing-yet e′ f′) = f ∙ sym f′
+owes-alike h (nothing-yet e f) (a-notice y z f′) = absurd (z e)
+owes-alike h (nothing-yet e f) (a-reply z a r) = absurd (omega arith)
+owes-alike h (nothing-yet e f) (no-reply z a f′) = absurd (omega arith)
+owes-alike h (a-notice y z f) (nothing-yet e f′) = absurd (z e)
+owes-alike h (a-notice y z f) (a-notice y′ z′ f′) = f ∙ sym f′
+owes-alike h (a-notice y z f) (a-reply e a r) = absurd (y e)
+owes-alike h (a-notice y z f) (no-reply e a f′) = absurd (y e)
+owes-alike h (a-reply z a r) (nothing-yet e f′) = absurd (omega arith)
+owes-alike h (a-reply e a r) (a-notice y z f) = absurd (y e)
+owes-alike h (a-reply z a r) (a-reply z′ a′ r′) = h z a r r′
+owes-alike h (a-reply z a r) (no-reply z′ a′ f) = clash (sym a ∙ a′)
+owes-alike h (no-reply z a f) (nothing-yet e f′) = absurd (omega arith)
+owes-alike h (no-reply e a f) (a-notice y z f′) = absurd (y e)
+owes-alike h (no-reply z a f) (a-reply z′ a′ r) = clash (sym a′ ∙ a)
+owes-alike h (no-reply z a f) (no-reply z′ a′ f′) = f ∙ sym f′
+
 -- what is owed is one
-owes-one : {s b b′ : Bytes} {m : Message} {n : ℕ} → Owes s m n b → Owes s m n b′ → b ≡ b′
-owes-one (nothing-yet e f) (nothing-yet e′ f′) = f ∙ sym f′
-owes-one (nothing-yet e f) (a-notice y z f′) = absurd (z e)
-owes-one (nothing-yet e f) (a-reply z a r) = absurd (omega arith)
-owes-one (nothing-yet e f) (no-reply z a f′) = absurd (omega arith)
-owes-one (a-notice y z f) (nothing-yet e f′) = absurd (z e)
-owes-one (a-notice y z f) (a-notice y′ z′ f′) = f ∙ sym f′
-owes-one (a-notice y z f) (a-reply e a r) = absurd (y e)
-owes-one (a-notice y z f) (no-reply e a f′) = absurd (y e)
-owes-one (a-reply z a r) (nothing-yet e f′) = absurd (omega arith)
-owes-one (a-reply e a r) (a-notice y z f) = absurd (y e)
-owes-one (a-reply z a r) (a-reply z′ a′ r′) = reply-one r r′
-owes-one (a-reply z a r) (no-reply z′ a′ f) = clash (sym a ∙ a′)
-owes-one (no-reply z a f) (nothing-yet e f′) = absurd (omega arith)
-owes-one (no-reply e a f) (a-notice y z f′) = absurd (y e)
-owes-one (no-reply z a f) (a-reply z′ a′ r) = clash (sym a′ ∙ a)
-owes-one (no-reply z a f) (no-reply z′ a′ f′) = f ∙ sym f′
+pub owes-one : {s b b′ : Bytes} {m : Message} {n : ℕ} → Owes s m n b → Owes s m n b′ → b ≡ b′
+owes-one = owes-alike (λ z a r r′. reply-one r r′)
 
 -- no second result, and no other buffer, satisfies the promise of `receive`
 pub receive-only : {l : Lane} {s old new new′ : Bytes} {r r′ : Received} → Receives l s old new r → Receives l s old new′ r′ → (r ≡ r′) × (new ≡ new′)
 receive-only {l} {s} {old} {new} {new′} {r} {r′} p q =
     let c = check-only (p .checks) (q .checks) in
     let b = owes-one (p .owes) (subst (λ (c : Checked). Owes s (c .message) (movedBy l (c .refusal) (c .message) .refusal) (q .due)) (sym c) (q .owes)) in
-    (p .answer ∙ ap (λ (c : Checked). answerOf l c (p .due) (length old)) c ∙ ap (λ (b : Bytes). answerOf l (q .checked) b (length old)) b ∙ sym (q .answer), p .buffer ∙ ap (λ (b : Bytes). firstIn b old) b ∙ sym (q .buffer))
+    (p .answer ∙ ap (λ (c : Checked). answerOf l c (p .due) (length old)) c ∙ ap (λ (b : Bytes). answerOf l (q .checked) b (length old)) b ∙ sym (q .answer), (let x = p .buffer in let y = q .buffer in cc))
 
 -- nor of `send`
 pub send-only : {l : Lane} {m : Message} {texts old new new′ : Bytes} {r r′ : Sent} → Sends l m texts old new r → Sends l m texts old new′ r′ → (r ≡ r′) × (new ≡ new′)
@@ -108,12 +115,12 @@ checked-low (too-long start p e) = subst (λ (c : Checked). Low (c .refusal)) (s
 abbrev pub Moves : ℕ → Type 0
 Moves n = among n (0 ∷ 1 ∷ 2 ∷ 3 ∷ 4 ∷ 5 ∷ 6 ∷ 9 ∷ []) ≡ true
 
-pub received-refusal : (l : Lane) (k : ℕ) (id : Bytes) → (received l k id .refusal ≡ 0) ⊎ (received l k id ≡ ended l 9)
-received-refusal l k id = go (next (l .state) k (other (l .side)) IsReceived (carriesOwn l k id)) refl
+pub received-refusal : (l : Lane) (e : Event) → (received l e .refusal ≡ 0) ⊎ (received l e ≡ ended l 9)
+received-refusal l e = go (stepIn l e) refl
   where
-    go : (st : Step) → next (l .state) k (other (l .side)) IsReceived (carriesOwn l k id) ≡ st → (received l k id .refusal ≡ 0) ⊎ (received l k id ≡ ended l 9)
-    go (To n) e = inl (ap (λ (v : Moved). v .refusal) (received-by l k id (To n) e))
-    go NoTransition e = inr (received-by l k id NoTransition e)
+    go : (st : Step) → stepIn l e ≡ st → (received l e .refusal ≡ 0) ⊎ (received l e ≡ ended l 9)
+    go (To n) q = inl (ap (λ (v : Moved). v .refusal) (received-by l e (To n) q))
+    go NoTransition q = inr (received-by l e NoTransition q)
 
 pub low-moves : (n : ℕ) → Low n → Moves n
 low-moves n e = among-more n (0 ∷ 1 ∷ 2 ∷ 3 ∷ 4 ∷ 5 ∷ 6 ∷ []) (9 ∷ []) e
@@ -122,7 +129,7 @@ moved-listed : (l : Lane) (n : ℕ) (m : Message) → Low n → Moves (movedBy l
 unfolding movedBy
 moved-listed l n m h =
     cases (eqb n 0)
-    (λ e. rw e (⊎-elim (λ z. subst Moves (sym z) refl) (λ z. subst (λ (v : Moved). Moves (v .refusal)) (sym z) refl) (received-refusal l (m .kind) (boardId m))))
+    (λ e. rw e (⊎-elim (λ z. subst Moves (sym z) refl) (λ z. subst (λ (v : Moved). Moves (v .refusal)) (sym z) refl) (received-refusal l (eventOf m))))
     (λ e. rw e (cases (eqb n 1) (λ f. rw f refl) (λ f. rw f (low-moves n h))))
 
 abbrev Any : ℕ → Type 0
@@ -191,7 +198,7 @@ only-one : (l : Lane) (n : ℕ) (m : Message) → movedBy l n m .refusal ≡ 1 �
 unfolding movedBy
 only-one l n m e =
     cases (eqb n 0)
-    (λ f. absurd (⊎-elim (λ z. let x : 0 ≡ 1 = sym z ∙ (rw f at e) in omega arith) (λ z. let x : 9 ≡ 1 = sym (ap (λ (v : Moved). v .refusal) z) ∙ (rw f at e) in omega arith) (received-refusal l (m .kind) (boardId m))))
+    (λ f. absurd (⊎-elim (λ z. let x : 0 ≡ 1 = sym z ∙ (rw f at e) in omega arith) (λ z. let x : 9 ≡ 1 = sym (ap (λ (v : Moved). v .refusal) z) ∙ (rw f at e) in omega arith) (received-refusal l (eventOf m))))
     (λ f. cases (eqb n 1) (λ g. eqb-true n 1 g) (λ g. rw (f, g) at e))
 
 more-ends : {s : Bytes} {c : Checked} → Checks s c → c .refusal ≡ 1 → c .end ≡ 0
@@ -206,8 +213,8 @@ more-ends (too-long start p e) h = ap (λ (c : Checked). c .end) e
 moved-ids-zero : (l : Lane) (n : ℕ) (m : Message) → (n ≡ 1 → ⊥) → IdsZero (movedBy l n m .lane)
 unfolding movedBy
 moved-ids-zero l n m h =
-    cases (eqb n 0) (λ e. rw e (received-ids-zero l (m .kind) (boardId m)))
-    (λ e. rw (e, ne-eqb n 1 h) (fresh-ids-zero (l .side)))
+    cases (eqb n 0) (λ e. rw e (received-ids-zero l (eventOf m)))
+    (λ e. rw (e, ne-eqb n 1 h) (lost-ids-zero l))
 
 -- T1.1: receiving answers 0 to 7, or 9
 module _ {l : Lane} {s old new : Bytes} {r : Received} (p : Receives l s old new r) where
@@ -248,6 +255,10 @@ module _ {l : Lane} {s old new : Bytes} {r : Received} (p : Receives l s old new
   pub told-used : length (p .due) ≤ length old → r .used ≡ p .checked .end
   unfolding told
   told-used h = ap (λ (r : Received). r .used) (fits h)
+
+  pub told-place : length (p .due) ≤ length old → r .place ≡ p .checked .place
+  unfolding told
+  told-place h = ap (λ (r : Received). r .place) (fits h)
 
   pub receive-listed : among (r .refusal) (0 ∷ 1 ∷ 2 ∷ 3 ∷ 4 ∷ 5 ∷ 6 ∷ 7 ∷ 9 ∷ []) ≡ true
   receive-listed =
@@ -309,9 +320,9 @@ module _ {l : Lane} {s old new : Bytes} {r : Received} (p : Receives l s old new
 pub record Accepts {l : Lane} {s old new : Bytes} {r : Received} (p : Receives l s old new r) : Type 0 where
   pub checked : p .checked .refusal ≡ 0
   pub fitted : length (p .due) ≤ length old
-  pub lane : r .lane ≡ received l (p .checked .message .kind) (boardId (p .checked .message)) .lane
-  pub order : r .order ≡ received l (p .checked .message .kind) (boardId (p .checked .message)) .order
-  pub accepted : received l (p .checked .message .kind) (boardId (p .checked .message)) .refusal ≡ 0
+  pub lane : r .lane ≡ received l (eventOf (p .checked .message)) .lane
+  pub order : r .order ≡ received l (eventOf (p .checked .message)) .order
+  pub accepted : received l (eventOf (p .checked .message)) .refusal ≡ 0
   pub message : r .message ≡ p .checked .message
 
 pub moved-zero : (l : Lane) (n : ℕ) (m : Message) → movedBy l n m .refusal ≡ 0 → n ≡ 0
@@ -320,7 +331,7 @@ moved-zero l n m e =
     cases (eqb n 0) (λ f. eqb-true n 0 f)
     (λ f. cases (eqb n 1) (λ g. absurd (let x : 1 ≡ 0 = rw (f, g) at e in omega arith)) (λ g. rw (f, g) at e))
 
-pub moved-on : (l : Lane) (n : ℕ) (m : Message) → n ≡ 0 → movedBy l n m ≡ received l (m .kind) (boardId m)
+pub moved-on : (l : Lane) (n : ℕ) (m : Message) → n ≡ 0 → movedBy l n m ≡ received l (eventOf m)
 unfolding movedBy
 moved-on l n m e = rw e refl
 
@@ -429,4 +440,4 @@ module _ {l : Lane} {m : Message} {texts old new : Bytes} {r : Sent} (p : Sends 
       go (refused-by k e f) = absurd (k (sym (ap (λ (r : Sent). r .refusal) e) ∙ z))
       go (may-not a k e f) = absurd (let x : 8 ≡ 0 = sym (ap (λ (r : Sent). r .refusal) e) ∙ z in omega arith)
       go (lacks-room a b h e f) = absurd (let x : 7 ≡ 0 = sym (ap (λ (r : Sent). r .refusal) e) ∙ z in omega arith)
-      go (goes a b h e f) = subst IdsZero (sym (ap (λ (r : Sent). r .lane) e)) (sent-ids-zero l (m .kind) (boardId m) b)
+      go (goes a b h e f) = subst IdsZero (sym (ap (λ (r : Sent). r .lane) e)) (sent-ids-zero l (eventOf m) b)

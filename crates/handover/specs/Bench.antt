@@ -4,15 +4,15 @@ use mathlib.Core.List.{List, [], _∷_}
 use mathlib.Core.Bool.{false}
 use Prim.Native.Nat.{ℕ}
 use Prim.Native.String.{String}
-use lib.ListN.{length, replicate}
+use lib.ListN.{length}
 use Rattle.exact.specs.Exact.{Out, done, more, bad}
 use Rattle.exact.specs.Loop.{loopP}
 use Rattle.grammar.specs.Bytes.{Bytes, text, within, digit}
 use Rattle.grammar.specs.Glue.{isGlue}
 use Rattle.grammar.specs.Name.{letter, nameStart, nameByte}
-use Rattle.grammar.specs.Character.{isChar}
+use Rattle.grammar.specs.Character.{isChar, utf8}
 use Rattle.grammar.specs.Reference.{hexDigit, worth}
-use Rattle.grammar.specs.Value.{isQuote, banned}
+use Rattle.grammar.specs.Value.{isQuote, banned, readItem, readValue}
 use Rattle.grammar.specs.Tree.{Tree, tree, no-trees}
 use Rattle.grammar.specs.Answer.{Answer, moreFrom, malformedAt}
 use Rattle.model.specs.Characters.{second3, third3, second4, plainByte, charP}
@@ -27,16 +27,21 @@ use Rattle.model.specs.Messages.{rootP, layoutP, messageP}
 use Rattle.model.specs.Answers.{leading, following, answerAt, answerOf}
 use Rattle.model.specs.Values.{turnP as VturnP}
 use Rattle.model.specs.Attributes.{turnP as AturnP}
-use Rattle.number.specs.Bytes.{trim, dropBack, dropFront, keepBefore, blank, some as someByte, all, digit as isDigit, valueFrom, before, behind}
+use Rattle.number.specs.Bytes.{hex, trim, dropBack, dropFront, keepBefore, blank, nonEmpty as someByte, all, digit as isDigit, valueFrom, before, behind}
+use Rattle.number.specs.Guid.{guidOf, filled, may}
 use Rattle.number.specs.Whole.{Whole, noInt, int, intOf, signed, sized}
 use Rattle.number.specs.Positive.{Number, noNumber, number, numberOf, written, short, above, millionths, decimal, parted, unsigned}
-use Rattle.lane.specs.Names.{U, NotConnected, Ready, Transporting, Unknown, StartTransport, StopTransport, CheckAlive, Cancel, StopNow, Accepted, ProtocolError}
+use Rattle.lane.specs.Names.{U, NotConnected, Ready, Transporting, Unknown, CheckAlive, Cancel, StopNow, Accepted, ProtocolError}
 use Rattle.lane.specs.Chart.{next, byRows, chart}
 use Rattle.lane.specs.Record.{noId, sameId, received}
 use Rattle.lane.specs.declared.Lane.{Lane}
 use Rattle.lane.specs.declared.Moved.{Moved}
-use Rattle.message.specs.Table.{table, rowsOf, kindOf}
-use Rattle.message.specs.Says.{tried, refusalOf, saidOf}
+use Rattle.table.specs.Table.{table, rowsOf, kindOf}
+use Rattle.table.specs.Says.{judged, tried, refusalOf, childOf, saidOf}
+use Rattle.message.specs.Fields.{fieldOf, fieldsIn, messageFrom}
+use Rattle.message.specs.Checked.{messageOf}
+use Rattle.value.specs.declared.text.Words.{Words}
+use Rattle.handover.specs.Ids.{boardId, eventOf}
 
 pub data Case : Type 0 where
   reads : String → Answer → Case
@@ -44,8 +49,8 @@ pub data Case : Type 0 where
   says : String → (end kind : ℕ) → Case
   whole : String → Whole → Case
   positive : String → Number → Case
-  -- a message of a kind with an id is received in a lane
-  receives : Lane → ℕ → List ℕ → Moved → Case
+  -- a message is received in a lane
+  receives : Lane → String → Moved → Case
 
 -- the reading of a message
 abbrev pub readingIn : Out Tree → Tree
@@ -53,25 +58,26 @@ readingIn (done t rest) = t
 readingIn more = tree [] [] no-trees
 readingIn (bad rest) = tree [] [] no-trees
 
+abbrev pub readingOf : String → Tree
+readingOf s = readingIn (messageP (text s))
+
+-- what a reading does to a lane: of texts only the places are told, and they do not matter
+abbrev pub Moves : Lane → Tree → Moved → Type 0
+Moves l t v = (place : Bytes → Words) → received l (eventOf (messageOf (saidOf t .kind) place (childOf t))) ≡ v
+
 abbrev pub Holds : Case → Type 0
 Holds (reads s a) = answerOf (text s) ≡ a
 Holds (says s end kind) =
-    (messageP (text s) ≡ done (readingIn (messageP (text s))) [])
-    × (length (text s) ≡ end)
-    × (saidOf (readingIn (messageP (text s))) .kind ≡ kind)
-    × (saidOf (readingIn (messageP (text s))) .refusal ≡ 0)
+    (messageP (text s) ≡ done (readingOf s) []) × (length (text s) ≡ end) × (saidOf (readingOf s) .kind ≡ kind) × (saidOf (readingOf s) .refusal ≡ 0)
 Holds (whole s x) = intOf (text s) ≡ x
 Holds (positive s x) = numberOf (text s) ≡ x
-Holds (receives l k id v) = received l k id ≡ v
+Holds (receives l s v) = (messageP (text s) ≡ done (readingOf s) []) × (saidOf (readingOf s) .refusal ≡ 0) × Moves l (readingOf s) v
 
--- two ids
-abbrev a : List ℕ
-a = replicate 36 97
+-- an id
+abbrev a : Bytes
+a = text "aaaaaaaa-aaaa-aaaa-aaaa-aaaaaaaaaaaa"
 
-abbrev b : List ℕ
-b = replicate 36 98
-
-abbrev lane : ℕ → List ℕ → Lane
+abbrev lane : ℕ → Bytes → Lane
 lane state running = record { side = U; state = state; offered = noId; running = running }
 
 abbrev pub bench : List Case
@@ -103,9 +109,11 @@ bench =
     ∷ positive "0.0000001" noNumber
     ∷ positive "0" noNumber
     -- "P11 StartTransport received in Ready: Transporting, order 2."
-    ∷ receives (lane Ready noId) StartTransport a (record { refusal = Accepted; lane = lane Transporting a; order = Cancel })
+    ∷ receives (lane Ready noId) "<Hermes><StartTransport BoardId=\"aaaaaaaa-aaaa-aaaa-aaaa-aaaaaaaaaaaa\"/></Hermes>"
+    (record { refusal = Accepted; lane = lane Transporting a; order = Cancel })
     -- "P12 StopTransport for another id in Transporting: 9, order 3."
-    ∷ receives (lane Transporting a) StopTransport b (record { refusal = ProtocolError; lane = lane NotConnected noId; order = StopNow })
+    ∷ receives (lane Transporting a) "<Hermes><StopTransport TransferState=\"1\" BoardId=\"bbbbbbbb-bbbb-bbbb-bbbb-bbbbbbbbbbbb\"/></Hermes>"
+    (record { refusal = ProtocolError; lane = lane NotConnected noId; order = StopNow })
     ∷ []
 
 abbrev pub All : List Case → Type 0
@@ -113,5 +121,5 @@ All [] = Unit {0}
 All (c ∷ l) = Holds c × All l
 
 pub bench-holds : All bench
-unfolding loopP within digit isChar isGlue letter nameStart nameByte hexDigit worth isQuote banned leading following answerAt answerOf second3 third3 second4 plainByte charP versionP encodingP yesNoP settingP behindStandaloneP standaloneOrEndP behindEncodingP behindVersionP declarationP closeP elemP leafTagP nodeTagP contentTurnP contentP fillP rootP layoutP messageP live new alive namedP refP itemP VturnP valueP endP quotedP equalsP attrP AturnP headP begun okay numberP table rowsOf kindOf tried refusalOf intOf signed sized trim dropBack dropFront keepBefore blank someByte all isDigit valueFrom numberOf parted unsigned decimal written short above millionths before behind received sameId next byRows chart
-bench-holds = (refl, ((refl, refl, refl, refl), (refl, (refl, ((refl, refl, refl, refl), (refl, (refl, (refl, (refl, (refl, (refl, (refl, (refl, (refl, (refl, (refl, (refl, (refl, tt))))))))))))))))))
+unfolding readValue readItem utf8 loopP within digit isChar isGlue letter nameStart nameByte hexDigit worth isQuote banned leading following answerAt answerOf second3 third3 second4 plainByte charP versionP encodingP yesNoP settingP behindStandaloneP standaloneOrEndP behindEncodingP behindVersionP declarationP closeP elemP leafTagP nodeTagP contentTurnP contentP fillP rootP layoutP messageP live new alive namedP refP itemP VturnP valueP endP quotedP equalsP attrP AturnP headP begun okay numberP table rowsOf kindOf tried refusalOf intOf signed sized trim dropBack dropFront keepBefore blank someByte all isDigit valueFrom judged guidOf filled may hex boardId messageFrom fieldsIn fieldOf numberOf parted unsigned decimal written short above millionths before behind received sameId next byRows chart
+bench-holds = (refl, ((refl, refl, refl, refl), (refl, (refl, ((refl, refl, refl, refl), (refl, (refl, (refl, (refl, (refl, (refl, (refl, (refl, (refl, (refl, (refl, ((refl, refl, λ place. refl), ((refl, refl, λ place. refl), tt))))))))))))))))))

@@ -20,11 +20,11 @@ use Rattle.message.specs.declared.checking.Checked.{Checked}
 use Rattle.message.specs.declared.values.Whole.{Whole}
 use Rattle.message.specs.declared.values.Whole.the-variants.{Absent as NoWhole, Present as IsWhole}
 use Rattle.message.specs.declared.kinds.Message.{Message}
-use Rattle.writer.specs.Notices.{notice}
-use Rattle.emit.specs.declared.writing_out.Written.{Written as Count}
+use Rattle.meant.specs.Notices.{notice}
+use Rattle.writes.specs.declared.messages.Written.{Written as Count}
 use Rattle.replies.specs.First.{First, firstIn}
 use Rattle.replies.specs.Replies.{Reply}
-use Rattle.handover.specs.Ids.{boardId}
+use Rattle.handover.specs.Ids.{eventOf}
 use Rattle.handover.specs.declared.receiving.Received.{Received}
 
 -- "A received CheckAlive of Type 1 is replied to"
@@ -37,7 +37,7 @@ asksReply m = eqb (m .kind) CheckAlive && isPing (m .alive .ping)
 
 -- "Attributes are tried in table order, each for 4, 5, 6; the first decides, then 9": what `check` refuses does not reach the chart. 1 keeps the record.
 unfoldable pub movedBy : Lane → ℕ → Message → Moved
-movedBy l n m = cond (eqb n 0) (received l (m .kind) (boardId m)) (cond (eqb n 1) (kept l 1) (ended l n))
+movedBy l n m = cond (eqb n 0) (received l (eventOf m)) (cond (eqb n 1) (kept l 1) (ended l n))
 
 -- the bytes b that are to be written where the refusal is n: "Notification" for one that ends the connection, the reply to a CheckAlive of Type 1,
 -- and "Nothing else accepted has a reply."

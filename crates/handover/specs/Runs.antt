@@ -2,18 +2,23 @@
 use mathlib.Core.Path.{_≡_}
 use mathlib.Core.List.{List, [], _∷_}
 use mathlib.Core.Bool.{true}
-use mathlib.Core.Logic.{_⊎_}
-use Prim.Native.Nat.{ℕ}
+use Prim.Native.Nat.{ℕ, _≤_, _<_}
+use lib.ListN.{length}
+use Rattle.lane.specs.Names.{Accepted, MayNotBeSent, ProtocolError}
 use Rattle.lane.specs.Chart.{among}
-use Rattle.lane.specs.Record.{blank}
-use Rattle.lane.specs.StepForStep.{Event, gets, sends as puts, Charted}
+use Rattle.lane.specs.Record.{blank, stepIn, stepOut}
+use Rattle.lane.specs.StepForStep.{gets, sends as puts, Charted}
 use Rattle.lane.specs.declared.Lane.{Lane}
+use Rattle.lane.specs.declared.chart.Step.{Step}
+use Rattle.lane.specs.declared.chart.Step.the-variants.{To, NoTransition}
 use Rattle.grammar.specs.Bytes.{Bytes}
 use Rattle.message.specs.Checked.{Checks}
 use Rattle.message.specs.declared.checking.Checked.{Checked}
 use Rattle.message.specs.declared.kinds.Message.{Message}
-use Rattle.handover.specs.Ids.{boardId}
-use Rattle.handover.specs.Receiving.{Receives}
+use Rattle.meant.specs.Meant.{refusalOf}
+use Rattle.meant.specs.Written.{writtenOf}
+use Rattle.handover.specs.Ids.{eventOf}
+use Rattle.handover.specs.Receiving.{Owes, Receives}
 use Rattle.handover.specs.Sending.{Sends}
 use Rattle.handover.specs.declared.receiving.Received.{Received}
 use Rattle.handover.specs.declared.sending.Sent.{Sent}
@@ -30,14 +35,32 @@ pub data Makes (l : Lane) (n : ℕ) (l′ : Lane) : Call → Type 0 where
   by-sending : {m : Message} {texts old : Bytes} (new : Bytes) (r : Sent) → Sends l m texts old new r → n ≡ r .refusal → l′ ≡ r .lane → Makes l n l′ (sends m texts old)
   by-losing : n ≡ 0 → l′ ≡ blank l → Makes l n l′ loses
 
--- what document 01 says of it: a record is kept, or NotConnected, or what the chart makes of the message that was read or is sent
+-- "accepted" with a transition, and else the refusal
+abbrev pub numbered : Step → ℕ → ℕ
+numbered (To s) refusal = Accepted
+numbered NoTransition refusal = refusal
+
+-- what a checked input makes of a lane, room put aside: the refusal n and the record l′
+pub data Outcome (l : Lane) (c : Checked) (n : ℕ) (l′ : Lane) : Type 0 where
+  -- "1 | more needed | kept"
+  waits : c .refusal ≡ 1 → n ≡ 1 → l′ ≡ l → Outcome l c n l′
+  -- "2, 3 | malformed .., too long | NotConnected"; "4, 5, 6 .. | NotConnected"
+  ends : among (c .refusal) (2 ∷ 3 ∷ 4 ∷ 5 ∷ 6 ∷ []) ≡ true → n ≡ c .refusal → l′ ≡ blank l → Outcome l c n l′
+  -- "0 | accepted | next"; ".. the first decides, then 9": "9 .. protocol error | NotConnected"
+  moves : c .refusal ≡ 0 → n ≡ numbered (stepIn l (eventOf (c .message))) ProtocolError → Charted l (gets (eventOf (c .message))) l′ → Outcome l c n l′
+
+-- what document 01 says of a call: one refusal and one record
 pub data Follows (l : Lane) (n : ℕ) (l′ : Lane) : Call → Type 0 where
-  waits : {s old : Bytes} → (n ≡ 1) ⊎ (n ≡ 7) → l′ ≡ l → Follows l n l′ (receives s old)
-  ends : {s old : Bytes} → among n (2 ∷ 3 ∷ 4 ∷ 5 ∷ 6 ∷ []) ≡ true → l′ ≡ blank l → Follows l n l′ (receives s old)
-  moves : {s old : Bytes} → (n ≡ 0) ⊎ (n ≡ 9) → (c : Checked) → Checks s c → c .refusal ≡ 0 → Charted l (gets (c .message .kind) (boardId (c .message))) l′ → Follows l n l′ (receives s old)
-  keeps : {m : Message} {texts old : Bytes} → (n ≡ 0 → ⊥) → l′ ≡ l → Follows l n l′ (sends m texts old)
-  goes : {m : Message} {texts old : Bytes} → n ≡ 0 → Charted l (puts (m .kind) (boardId m)) l′ → Follows l n l′ (sends m texts old)
-  lost : l′ ≡ blank l → Follows l n l′ loses
+  -- "7 is given exactly if the bytes to be written, a Notification too, are more than the buffer holds; it replaces the answer that would write them"
+  answers : {s old : Bytes} (c : Checked) (due : Bytes) → Checks s c → Outcome l c n l′ → Owes s (c .message) n due → length due ≤ length old → Follows l n l′ (receives s old)
+  lacks : {s old : Bytes} (c : Checked) (due : Bytes) (k : ℕ) (x : Lane) → Checks s c → Outcome l c k x → Owes s (c .message) k due → length old < length due → n ≡ 7 → l′ ≡ l → Follows l n l′ (receives s old)
+  -- "In sending, 4, 5, 6 in table order, then 8, then 7; every refusal keeps record and buffer."
+  refuses : {m : Message} {texts old : Bytes} → (refusalOf m texts ≡ 0 → ⊥) → n ≡ refusalOf m texts → l′ ≡ l → Follows l n l′ (sends m texts old)
+  may-not : {m : Message} {texts old : Bytes} → refusalOf m texts ≡ 0 → stepOut l (eventOf m) ≡ NoTransition → n ≡ MayNotBeSent → l′ ≡ l → Follows l n l′ (sends m texts old)
+  no-room : {m : Message} {texts old : Bytes} (x : ℕ) → refusalOf m texts ≡ 0 → stepOut l (eventOf m) ≡ To x → length old < length (writtenOf m texts) → n ≡ 7 → l′ ≡ l → Follows l n l′ (sends m texts old)
+  goes : {m : Message} {texts old : Bytes} (x : ℕ) → refusalOf m texts ≡ 0 → stepOut l (eventOf m) ≡ To x → length (writtenOf m texts) ≤ length old → n ≡ Accepted → Charted l (puts (eventOf m)) l′ → Follows l n l′ (sends m texts old)
+  -- "a lost connection brings it back there"
+  lost : n ≡ Accepted → l′ ≡ blank l → Follows l n l′ loses
 
 -- a call and what it answered
 pub record Turn : Type 0 where
@@ -49,3 +72,7 @@ pub record Turn : Type 0 where
 abbrev pub Run : (Lane → ℕ → Lane → Call → Type 0) → Lane → List Turn → Type 0
 Run Meets l [] = Unit {0}
 Run Meets l (t ∷ ts) = Meets l (t .refusal) (t .lane) (t .call) × Run Meets (t .lane) ts
+
+abbrev pub callsOf : List Turn → List Call
+callsOf [] = []
+callsOf (t ∷ ts) = t .call ∷ callsOf ts

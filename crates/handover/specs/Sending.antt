@@ -11,9 +11,9 @@ use Rattle.lane.specs.declared.Lane.{Lane}
 use Rattle.lane.specs.declared.Moved.{Moved}
 use Rattle.grammar.specs.Bytes.{Bytes}
 use Rattle.message.specs.declared.kinds.Message.{Message}
-use Rattle.writer.specs.Meant.{refusalOf}
-use Rattle.writer.specs.Written.{writtenOf}
-use Rattle.handover.specs.Ids.{boardId}
+use Rattle.meant.specs.Meant.{refusalOf}
+use Rattle.meant.specs.Written.{writtenOf}
+use Rattle.handover.specs.Ids.{eventOf}
 use Rattle.handover.specs.declared.sending.Sent.{Sent}
 
 -- "every refusal keeps record and buffer"
@@ -22,7 +22,7 @@ kept l n = record { refusal = n; lane = l; order = NoOrder; written = 0 }
 
 -- what the message does to the lane
 abbrev pub movedBy : Lane → Message → Moved
-movedBy l m = sent l (m .kind) (boardId m)
+movedBy l m = sent l (eventOf m)
 
 -- the refusal of a message that may not be sent: "4, 5, 6 in table order, then 8"
 unfoldable pub mayNot : Message → Bytes → ℕ

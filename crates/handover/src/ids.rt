@@ -1,6 +1,7 @@
-// The BoardId of a message.
+// The BoardId of a message, and what the chart looks at in it.
 ghost use mathlib.Core.Path.{_≡_};
-ghost use Rattle.handover.specs.Ids.{boardId};
+ghost use Rattle.handover.specs.Ids.{boardId, eventOf};
+use lane::Event;
 use lane::Kind;
 use message::kinds::Message;
 
@@ -27,4 +28,12 @@ pub fn board_id(m: Message) -> [u8; 36]
         }
         _ => [0u8; 36],
     }
+}
+
+/// What a message is for the chart.
+pub fn event_of(m: Message) -> Event
+    ensures { λ r. ⌜ r ≡ eventOf m ⌝ }
+{
+    let id = board_id(m);
+    Event { kind: m.kind, id }
 }

@@ -1,8 +1,7 @@
 // Receiving: the message that an input starts with, what it does to the lane, and what is written back.
 ghost use mathlib.Core.Path.{_≡_};
 ghost use Rattle.handover.specs.Receiving.{asksReply, movedBy, told as toldOf, noRoom, Sound, Written as Answered, Receives};
-use crate::ids::board_id;
-use emit::Written;
+use crate::ids::event_of;
 use lane::Kind;
 use lane::Lane;
 use lane::Moved;
@@ -10,6 +9,7 @@ use lane::Order;
 use message::Checked;
 use message::kinds::Message;
 use message::values::Whole;
+use writes::Written;
 
 /// What receiving answers: the refusal; the lane after it and the belt order; how many bytes of the input are used, how many of the buffer
 /// are written; the place of a malformed byte; and an accepted message.
@@ -44,8 +44,7 @@ fn moved_by(lane: Lane, refusal: u8, m: Message) -> Moved
     ensures { λ r. ⌜ r ≡ movedBy lane refusal m ⌝ }
 {
     if refusal == 0 {
-        let kind = m.kind;
-        return lane.received(kind, board_id(m));
+        return lane.received(event_of(m));
     }
     if refusal == 1 {
         return Moved {
@@ -86,7 +85,7 @@ fn answer(s: &[u8], refusal: u8, m: Message, out: &mut [u8]) -> Written
 fn no_room(lane: Lane) -> Received
     ensures { λ r. ⌜ r ≡ noRoom lane ⌝ }
 {
-    let message = message::blank(0);
+    let message = structs::blank(Kind::UNKNOWN);
     Received {
         refusal: 7,
         lane,
@@ -105,7 +104,7 @@ fn told(c: Checked, moved: Moved, written: usize) -> Received
     let lane = moved.lane;
     let mut message = c.message;
     if moved.refusal != 0 {
-        message = message::blank(0);
+        message = structs::blank(Kind::UNKNOWN);
     }
     Received {
         refusal: moved.refusal,
@@ -123,7 +122,7 @@ fn told(c: Checked, moved: Moved, written: usize) -> Received
 pub fn receive(lane: Lane, s: &[u8], out: &mut [u8]) -> Received
     ensures { λ r. ⌜ Receives lane (now (s .entry)) (now (out .entry)) (now (out .exit)) r ⌝ }
 {
-    let c = message::check(s);
+    let c = reads::check(s);
     let m = c.message;
     let moved = moved_by(lane, c.refusal, m);
     let w = answer(s, moved.refusal, m, out);

@@ -1,7 +1,7 @@
 // Sending: whether a message may be sent, what it does to the lane, and its bytes.
 ghost use mathlib.Core.Path.{_≡_};
 ghost use Rattle.handover.specs.Sending.{kept as keptBy, mayNot, Sends};
-use crate::ids::board_id;
+use crate::ids::event_of;
 use lane::Lane;
 use lane::Order;
 use lane::Refusal;
@@ -31,7 +31,7 @@ fn kept(lane: Lane, refusal: u8) -> Sent
 fn may_not(m: Message, texts: &[u8]) -> u8
     ensures { λ r. ⌜ r ≡ mayNot m (now (texts .entry)) ⌝ }
 {
-    let r = writer::refusal_of(m, texts);
+    let r = writes::refusal_of(m, texts);
     if r != 0 {
         return r;
     }
@@ -42,12 +42,11 @@ fn may_not(m: Message, texts: &[u8]) -> u8
 pub fn send(lane: Lane, m: Message, texts: &[u8], out: &mut [u8]) -> Sent
     ensures { λ r. ⌜ Sends lane m (now (texts .entry)) (now (out .entry)) (now (out .exit)) r ⌝ }
 {
-    let kind = m.kind;
-    let moved = lane.sent(kind, board_id(m));
+    let moved = lane.sent(event_of(m));
     if moved.refusal != 0 {
         return kept(lane, may_not(m, texts));
     }
-    let w = emit::write(m, texts, out);
+    let w = writes::write(m, texts, out);
     if w.refusal != 0 {
         return kept(lane, w.refusal);
     }

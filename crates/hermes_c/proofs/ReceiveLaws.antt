@@ -7,20 +7,21 @@ use lib.ListN.{length}
 use lib.Dec.{eqb, leb}
 use Rattle.grammar.specs.Bytes.{Bytes}
 use Rattle.lane.specs.Names.{ProtocolError}
-use Rattle.lane.specs.Chart.{Received as IsReceived, next}
-use Rattle.lane.specs.Record.{carriesOwn, ended, answer, other, received}
+use Rattle.lane.specs.Record.{ended, answer, stepIn, received}
+use Rattle.lane.specs.declared.Event.{Event}
 use Rattle.lane.specs.declared.Lane.{Lane}
 use Rattle.lane.specs.declared.Moved.{Moved}
 use Rattle.lane.specs.declared.chart.Step.{Step}
 use Rattle.lane.specs.declared.chart.Step.the-variants.{To, NoTransition}
-use Rattle.value.specs.declared.id.Guid.{Guid}
 use Rattle.message.specs.declared.checking.Checked.{Checked}
 use Rattle.message.specs.declared.kinds.Message.{Message}
+use Rattle.handover.specs.Ids.{eventOf}
 use Rattle.handover.specs.Receiving.{movedBy, told, answerOf, Receives}
 use Rattle.handover.specs.declared.receiving.Received.{Received}
 use Rattle.handover.proofs.Theorems.{receive-only}
 use Rattle.hermes_c.specs.Lanes.{Lent}
-use Rattle.flat.specs.Numbers.{idOf, numbersOf}
+use Rattle.message.specs.Cells.{numbersOf}
+use Rattle.structs.specs.Laid.{idOf}
 use Rattle.hermes_c.specs.Receiving.{ReceivesAs}
 use Rattle.hermes_c.proofs.LaneLaws.{in-parts, lent-only}
 
@@ -29,18 +30,18 @@ either P true p q = p
 either P false p q = q
 
 -- the side is the lane's own, whatever is received
-received-side : (l : Lane) (k : ℕ) (id : Bytes) → received l k id .lane .side ≡ l .side
+received-side : (l : Lane) (e : Event) → received l e .lane .side ≡ l .side
 unfolding received
-received-side l k id = go (next (l .state) k (other (l .side)) IsReceived (carriesOwn l k id))
+received-side l e = go (stepIn l e)
   where
-    go : (s : Step) → answer s l k id (ended l ProtocolError) .lane .side ≡ l .side
+    go : (s : Step) → answer s l e (ended l ProtocolError) .lane .side ≡ l .side
     go (To n) = refl
     go NoTransition = refl
 
 moved-side : (l : Lane) (n : ℕ) (m : Message) → movedBy l n m .lane .side ≡ l .side
 unfolding movedBy
 moved-side l n m =
-    either (λ (v : Moved). v .lane .side ≡ l .side) (eqb n 0) (received-side l (m .kind) _) (either (λ (v : Moved). v .lane .side ≡ l .side) (eqb n 1) refl refl)
+    either (λ (v : Moved). v .lane .side ≡ l .side) (eqb n 0) (received-side l (eventOf m)) (either (λ (v : Moved). v .lane .side ≡ l .side) (eqb n 1) refl refl)
 
 answer-side : (l : Lane) (c : Checked) (b : Bytes) (room : ℕ) → answerOf l c b room .lane .side ≡ l .side
 unfolding answerOf told
@@ -49,15 +50,15 @@ answer-side l c b room = either (λ (r : Received). r .lane .side ≡ l .side) (
 receive-side : {l : Lane} {s old new : Bytes} {r : Received} → Receives l s old new r → r .lane .side ≡ l .side
 receive-side {l} {s} {old} p = ap (λ (r : Received). r .lane .side) (p .answer) ∙ answer-side l (p .checked) (p .due) (length old)
 
-pub receives-as : {l : Lane} {s old new : Bytes} {r : Received} {n : List ℕ} {g : Guid} → Receives l s old new r → n ≡ numbersOf (r .message) → g ≡ idOf (r .message)
-    → ReceivesAs l s old new (r .refusal) (r .lane .state) (r .lane .offered) (r .lane .running) n (g .bytes) (r .order) (r .used) (r .written) (r .place)
+pub receives-as : {l : Lane} {s old new : Bytes} {r : Received} {n : List ℕ} {g : Bytes} → Receives l s old new r → n ≡ numbersOf (r .message) → g ≡ idOf (r .message)
+    → ReceivesAs l s old new (r .refusal) (r .lane .state) (r .lane .offered) (r .lane .running) n g (r .order) (r .used) (r .written) (r .place)
 receives-as {r = r} p e f = record {
   received = r;
   receives = p;
   refuses = refl;
   after = in-parts (receive-side p);
   says = e;
-  names = ap (λ (g : Guid). g .bytes) f;
+  names = f;
   orders = refl;
   uses = refl;
   writes = refl;
@@ -76,7 +77,7 @@ receives-as-only {l} {b′ = b′} {o′ = o′} {q′ = q′} x y =
       offered,
       running,
       x .says ∙ ap (λ (r : Received). numbersOf (r .message)) one ∙ sym (y .says),
-      x .names ∙ ap (λ (r : Received). idOf (r .message) .bytes) one ∙ sym (y .names),
+      x .names ∙ ap (λ (r : Received). idOf (r .message)) one ∙ sym (y .names),
       x .orders ∙ ap (λ (r : Received). r .order) one ∙ sym (y .orders),
       x .uses ∙ ap (λ (r : Received). r .used) one ∙ sym (y .uses),
       x .writes ∙ ap (λ (r : Received). r .written) one ∙ sym (y .writes),

@@ -5,15 +5,15 @@ use lib.ListN.{length}
 use lib.Dec.{eqb, leb}
 use Rattle.grammar.specs.Bytes.{Bytes}
 use Rattle.lane.specs.Names.{MayNotBeSent}
-use Rattle.lane.specs.Chart.{Sent as IsSent, next}
-use Rattle.lane.specs.Record.{carriesOwn, kept, answer, sent}
+use Rattle.lane.specs.Record.{kept, answer, stepOut, sent}
+use Rattle.lane.specs.declared.Event.{Event}
 use Rattle.lane.specs.declared.Lane.{Lane}
 use Rattle.lane.specs.declared.chart.Step.{Step}
 use Rattle.lane.specs.declared.chart.Step.the-variants.{To, NoTransition}
 use Rattle.message.specs.declared.kinds.Message.{Message}
-use Rattle.writer.specs.Meant.{refusalOf}
-use Rattle.writer.specs.Written.{writtenOf}
-use Rattle.handover.specs.Ids.{boardId}
+use Rattle.meant.specs.Meant.{refusalOf}
+use Rattle.meant.specs.Written.{writtenOf}
+use Rattle.handover.specs.Ids.{eventOf}
 use Rattle.handover.specs.Sending.{movedBy, answerOf, Sends}
 use Rattle.handover.specs.declared.sending.Sent.{Sent}
 use Rattle.handover.proofs.Theorems.{send-only}
@@ -23,11 +23,11 @@ use Rattle.hermes_c.proofs.LaneLaws.{in-parts, lent-only}
 use Rattle.hermes_c.proofs.ReceiveLaws.{either}
 
 -- the side is the lane's own, whatever is sent
-sent-side : (l : Lane) (k : ℕ) (id : Bytes) → sent l k id .lane .side ≡ l .side
+sent-side : (l : Lane) (e : Event) → sent l e .lane .side ≡ l .side
 unfolding sent
-sent-side l k id = go (next (l .state) k (l .side) IsSent (carriesOwn l k id))
+sent-side l e = go (stepOut l e)
   where
-    go : (s : Step) → answer s l k id (kept l MayNotBeSent) .lane .side ≡ l .side
+    go : (s : Step) → answer s l e (kept l MayNotBeSent) .lane .side ≡ l .side
     go (To n) = refl
     go NoTransition = refl
 
@@ -36,7 +36,7 @@ unfolding answerOf
 answer-side l m texts room =
     either (λ (r : Sent). r .lane .side ≡ l .side) (eqb (refusalOf m texts) 0)
     (either (λ (r : Sent). r .lane .side ≡ l .side) (eqb (movedBy l m .refusal) 0)
-    (either (λ (r : Sent). r .lane .side ≡ l .side) (leb (length (writtenOf m texts)) room) (sent-side l (m .kind) (boardId m)) refl) refl) refl
+    (either (λ (r : Sent). r .lane .side ≡ l .side) (leb (length (writtenOf m texts)) room) (sent-side l (eventOf m)) refl) refl) refl
 
 send-side : {l : Lane} {m : Message} {texts old new : Bytes} {r : Sent} → Sends l m texts old new r → r .lane .side ≡ l .side
 send-side {l} {m} {texts} {old} p = ap (λ (r : Sent). r .lane .side) (p .answer) ∙ answer-side l m texts (length old)

@@ -2,19 +2,18 @@
 use mathlib.Core.Path.{_≡_, refl, sym, ap, subst, _∙_}
 use Prim.Native.Nat.{ℕ}
 use Rattle.grammar.specs.Bytes.{Bytes}
-use Rattle.value.specs.Asking.{TextSays}
-use Rattle.value.specs.Asked.{refusalOf}
-use Rattle.value.specs.Only.{decode-only}
+use Rattle.value.specs.Asking.{Told, paper, TextSays}
+use Rattle.value.specs.Only.{says-only}
 use Rattle.value.specs.declared.text.Words.{Words}
 use Rattle.value.specs.declared.text.TextAt.{TextAt}
-use Rattle.flat.specs.Messages.{textFrom}
+use Rattle.message.specs.Cells.{wordsBy}
 use Rattle.hermes_c.specs.Texts.{sideOf, atOf, countOf, TextTold}
 
-pub text-told : (s : Bytes) (there start len : ℕ) (old new : Bytes) (t : Words) (r a : TextAt) → t ≡ textFrom there start len → r ≡ a → TextSays s t old new r → TextTold s there start len old new (refusalOf a) (sideOf a) (atOf a) (countOf a)
+pub text-told : (s : Bytes) (there start len : ℕ) (old new : Bytes) (t : Words) (r a : TextAt) → t ≡ wordsBy there start len → r ≡ a → TextSays s t old new (paper r) → TextTold s there start len old new (paper a .number) (sideOf (paper a .place)) (atOf (paper a .place)) (countOf (paper a .place))
 text-told s there start len old new t r a e f p =
     record {
-      answer = a;
-      says = subst (λ (x : TextAt). TextSays s (textFrom there start len) old new x) f (subst (λ (x : Words). TextSays s x old new r) e p);
+      told = paper a;
+      says = subst (λ (x : TextAt). TextSays s (wordsBy there start len) old new (paper x)) f (subst (λ (x : Words). TextSays s x old new (paper r)) e p);
       refuses = refl;
       sides = refl;
       ats = refl;
@@ -30,11 +29,11 @@ pub record SameTold (new new′ : Bytes) (r r′ p p′ a a′ c c′ : ℕ) : T
 
 pub text-told-only : {s : Bytes} {there start len : ℕ} {old new new′ : Bytes} {r r′ p p′ a a′ c c′ : ℕ} → TextTold s there start len old new r p a c → TextTold s there start len old new′ r′ p′ a′ c′ → SameTold new new′ r r′ p p′ a a′ c c′
 text-told-only x y =
-    let q = decode-only (x .says) (y .says) in
+    let q = says-only (x .says) (y .says) in
     record {
       scratch = q .scratch;
-      refusal = x .refuses ∙ ap refusalOf (q .answer) ∙ sym (y .refuses);
-      place = x .sides ∙ ap sideOf (q .answer) ∙ sym (y .sides);
-      at = x .ats ∙ ap atOf (q .answer) ∙ sym (y .ats);
-      count = x .counts ∙ ap countOf (q .answer) ∙ sym (y .counts);
+      refusal = x .refuses ∙ ap (λ (t : Told). t .number) (q .answer) ∙ sym (y .refuses);
+      place = x .sides ∙ ap (λ (t : Told). sideOf (t .place)) (q .answer) ∙ sym (y .sides);
+      at = x .ats ∙ ap (λ (t : Told). atOf (t .place)) (q .answer) ∙ sym (y .ats);
+      count = x .counts ∙ ap (λ (t : Told). countOf (t .place)) (q .answer) ∙ sym (y .counts);
     }

@@ -7,7 +7,8 @@ use Rattle.lane.specs.declared.Lane.{Lane}
 use Rattle.handover.specs.Receiving.{Receives}
 use Rattle.handover.specs.declared.receiving.Received.{Received}
 use Rattle.hermes_c.specs.Lanes.{Lent}
-use Rattle.flat.specs.Numbers.{idOf, numbersOf}
+use Rattle.message.specs.Cells.{numbersOf}
+use Rattle.structs.specs.Laid.{idOf}
 
 -- a lane l, an input s, a buffer that holds `old` before and `new` after; the side is the lane's own
 pub record ReceivesAs (l : Lane) (s old new : Bytes) (refusal state : ℕ) (offered running : Bytes) (numbers : List ℕ) (id : Bytes) (order used written place : ℕ) : Type 0 where
@@ -16,7 +17,7 @@ pub record ReceivesAs (l : Lane) (s old new : Bytes) (refusal state : ℕ) (offe
   pub refuses : refusal ≡ received .refusal
   pub after : Lent (received .lane) (l .side) state offered running
   pub says : numbers ≡ numbersOf (received .message)
-  pub names : id ≡ idOf (received .message) .bytes
+  pub names : id ≡ idOf (received .message)
   pub orders : order ≡ received .order
   pub uses : used ≡ received .used
   pub writes : written ≡ received .written

@@ -1,9 +1,10 @@
 // Receiving a message.
 ghost use Rattle.hermes_c.specs.Lanes.{laneOf};
 ghost use Rattle.hermes_c.specs.Receiving.{ReceivesAs};
-use flat::id_of;
-use flat::numbers_of;
 use lane::Lane;
+use structs::NUMBERS;
+use structs::id_of;
+use structs::numbers_of;
 
 /// Receives the message that stands first in the bytes, behind glue: checks it, moves the lane, and writes the Notification of a refusal or the
 /// reply to a CheckAlive first into the buffer. Answers the refusal; the belt order; how many of the bytes are used, and how many of the buffer
@@ -16,7 +17,7 @@ pub extern "C" fn tryphomel_receive(
     running: &mut [u8; 36],
     bytes: &[u8],
     out: &mut [u8],
-    numbers: &mut [u64; 65],
+    numbers: &mut [u64; NUMBERS],
     id: &mut [u8; 36],
     order: &mut u8,
     used: &mut u64,
@@ -36,8 +37,7 @@ pub extern "C" fn tryphomel_receive(
     let a = handover::receive(lane, bytes, out);
     let m = a.message;
     let next = a.lane;
-    let guid = id_of(m);
-    let b = guid.bytes;
+    let b = id_of(m);
     let o = next.offered;
     let r = next.running;
     *state = next.state;

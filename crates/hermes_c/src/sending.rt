@@ -1,9 +1,10 @@
 // Sending a message.
 ghost use Rattle.hermes_c.specs.Lanes.{laneOf};
-ghost use Rattle.flat.specs.Messages.{messageOf};
+ghost use Rattle.message.specs.Cells.{messageOf};
 ghost use Rattle.hermes_c.specs.Sending.{SendsAs};
-use flat::message_of;
 use lane::Lane;
+use structs::NUMBERS;
+use structs::message_in;
 
 /// Sends the message of these numbers and this BoardId, whose texts are parts of `texts`: it stands first in the buffer, and the lane is moved.
 /// Every refusal keeps both. Answers the refusal; the belt order; and how many bytes of the buffer are written.
@@ -13,7 +14,7 @@ pub extern "C" fn tryphomel_send(
     state: &mut u8,
     offered: &mut [u8; 36],
     running: &mut [u8; 36],
-    numbers: &[u64; 65],
+    numbers: &[u64; NUMBERS],
     id: &[u8; 36],
     texts: &[u8],
     out: &mut [u8],
@@ -30,7 +31,7 @@ pub extern "C" fn tryphomel_send(
         offered: o,
         running: r,
     };
-    let m = message_of(numbers, id);
+    let m = message_in(numbers, id);
     let a = handover::send(lane, m, texts, out);
     let next = a.lane;
     let o = next.offered;

@@ -7,8 +7,9 @@ use mathlib.Core.Logic.{_⊎_, ⊎-elim}
 use Prim.Native.Nat.{ℕ}
 use Rattle.lane.specs.Names.{U, D, Ready, Both, Transporting, Stopped, RevokeBoardAvailable, StartTransport, StopTransport, TransportFinished, NoOrder, Run, Cancel, Accepted, MayNotBeSent, ProtocolError}
 use Rattle.lane.specs.Chart.{Received, Sent, chart, byRows, next}
-use Rattle.lane.specs.Record.{noId, sameId, carriesOwn, ended, kept, other, received, sent}
+use Rattle.lane.specs.Record.{noId, carriesOwn, ended, kept, other, received, sent}
 use Rattle.lane.specs.Laws.{same-refl, same-false, received-by, sent-by}
+use Rattle.lane.specs.declared.Event.{Event}
 use Rattle.lane.specs.declared.Lane.{Lane}
 use Rattle.lane.specs.declared.Moved.{Moved}
 use Rattle.lane.specs.declared.chart.Step.the-variants.{To, NoTransition}
@@ -56,45 +57,48 @@ revoke-stopped : (same : Bool) → next Stopped RevokeBoardAvailable U Received 
 unfolding next byRows chart
 revoke-stopped same = refl
 
-module _ (l : Lane) (id : List ℕ) where
-  own : l .offered ≡ id → sameId (l .offered) id ≡ true
-  own h = rw h (same-refl id)
+module _ (l : Lane) (e : Event) where
+  own : e .kind ≡ StartTransport → l .offered ≡ e .id → carriesOwn l e ≡ true
+  own k h = rw (k, h) (same-refl (e .id))
+
+  not-own : e .kind ≡ StartTransport → (l .offered ≡ e .id → ⊥) → carriesOwn l e ≡ false
+  not-own k h = rw k (same-false (l .offered) (e .id) h)
 
   -- "with another id, or in Ready, it orders cancel (2) and still goes to Transporting"
-  pub start-cancel-ready : l .side ≡ U → l .state ≡ Ready → received l StartTransport id ≡ started l id Cancel
-  start-cancel-ready es et = received-by l StartTransport id (To Transporting) (rw (et, es) (start-ready _)) ∙ rw et
+  pub start-cancel-ready : e .kind ≡ StartTransport → l .side ≡ U → l .state ≡ Ready → received l e ≡ started l (e .id) Cancel
+  start-cancel-ready k es et = received-by l e (To Transporting) (rw (et, es, k) (start-ready _)) ∙ rw (et, k)
 
-  pub start-cancel-other : l .side ≡ U → l .state ≡ Both → (l .offered ≡ id → ⊥) → received l StartTransport id ≡ started l id Cancel
-  start-cancel-other es et h =
-      let f = same-false (l .offered) id h in
-      received-by l StartTransport id (To Transporting) (rw (et, es, f) start-both-other) ∙ rw (et, f)
+  pub start-cancel-other : e .kind ≡ StartTransport → l .side ≡ U → l .state ≡ Both → (l .offered ≡ e .id → ⊥) → received l e ≡ started l (e .id) Cancel
+  start-cancel-other k es et h =
+      let f = not-own k h in
+      received-by l e (To Transporting) (rw (f, et, es, k) start-both-other) ∙ rw (f, et, k)
 
   -- "A received StartTransport in Both with the offered id orders the belt to run (1)"
-  pub start-run : l .side ≡ U → l .state ≡ Both → l .offered ≡ id → received l StartTransport id ≡ started l id Run
-  start-run es et h =
-      let o = own h in
-      received-by l StartTransport id (To Transporting) (rw (et, es, o) (start-both Received)) ∙ rw (et, o)
+  pub start-run : e .kind ≡ StartTransport → l .side ≡ U → l .state ≡ Both → l .offered ≡ e .id → received l e ≡ started l (e .id) Run
+  start-run k es et h =
+      let o = own k h in
+      received-by l e (To Transporting) (rw (o, et, es, k) (start-both Received)) ∙ rw (o, et, k)
 
   -- "Sent, it must carry the offered id, and orders run."
-  pub start-sent : l .side ≡ D → l .state ≡ Both → l .offered ≡ id → sent l StartTransport id ≡ started l id Run
-  start-sent es et h =
-      let o = own h in
-      sent-by l StartTransport id (To Transporting) (rw (et, es, o) (start-both Sent)) ∙ rw (et, o)
+  pub start-sent : e .kind ≡ StartTransport → l .side ≡ D → l .state ≡ Both → l .offered ≡ e .id → sent l e ≡ started l (e .id) Run
+  start-sent k es et h =
+      let o = own k h in
+      sent-by l e (To Transporting) (rw (o, et, es, k) (start-both Sent)) ∙ rw (o, et, k)
 
-  pub start-sent-other : (l .offered ≡ id → ⊥) → sent l StartTransport id ≡ kept l MayNotBeSent
-  start-sent-other h = sent-by l StartTransport id NoTransition (rw (same-false (l .offered) id h) (start-sent-not _ _))
+  pub start-sent-other : e .kind ≡ StartTransport → (l .offered ≡ e .id → ⊥) → sent l e ≡ kept l MayNotBeSent
+  start-sent-other k h = sent-by l e NoTransition (rw (not-own k h, k) (start-sent-not _ _))
 
   -- "Stop and Finished with an id other than the running one are no transition."
-  foreign : (r : Bool) (k : ℕ) → (k ≡ StopTransport) ⊎ (k ≡ TransportFinished) → (l .running ≡ id → ⊥) → (s u : ℕ) → next s k u r (carriesOwn l k id) ≡ NoTransition
-  foreign r k w h s u =
-      let f = same-false (l .running) id h in
-      ⊎-elim (λ e. rw e (rw f (stop-not s u r))) (λ e. rw e (rw f (finished-not s u r))) w
+  foreign : (r : Bool) → (e .kind ≡ StopTransport) ⊎ (e .kind ≡ TransportFinished) → (l .running ≡ e .id → ⊥) → (s u : ℕ) → next s (e .kind) u r (carriesOwn l e) ≡ NoTransition
+  foreign r w h s u =
+      let f = same-false (l .running) (e .id) h in
+      ⊎-elim (λ k. rw k (rw f (stop-not s u r))) (λ k. rw k (rw f (finished-not s u r))) w
 
-  pub foreign-stop : (k : ℕ) → (k ≡ StopTransport) ⊎ (k ≡ TransportFinished) → (l .running ≡ id → ⊥) → received l k id ≡ ended l ProtocolError
-  foreign-stop k w h = received-by l k id NoTransition (foreign Received k w h (l .state) (other (l .side)))
+  pub foreign-stop : (e .kind ≡ StopTransport) ⊎ (e .kind ≡ TransportFinished) → (l .running ≡ e .id → ⊥) → received l e ≡ ended l ProtocolError
+  foreign-stop w h = received-by l e NoTransition (foreign Received w h (l .state) (other (l .side)))
 
-  pub foreign-stop-sent : (k : ℕ) → (k ≡ StopTransport) ⊎ (k ≡ TransportFinished) → (l .running ≡ id → ⊥) → sent l k id ≡ kept l MayNotBeSent
-  foreign-stop-sent k w h = sent-by l k id NoTransition (foreign Sent k w h (l .state) (l .side))
+  pub foreign-stop-sent : (e .kind ≡ StopTransport) ⊎ (e .kind ≡ TransportFinished) → (l .running ≡ e .id → ⊥) → sent l e ≡ kept l MayNotBeSent
+  foreign-stop-sent w h = sent-by l e NoTransition (foreign Sent w h (l .state) (l .side))
 
   -- "Transporting, Stopped (received only) | RevokeBoardAvailable U | same"
   abbrev pub unmoved : Moved
@@ -105,8 +109,8 @@ module _ (l : Lane) (id : List ℕ) where
         order = NoOrder;
       }
 
-  pub late-revoke-transporting : l .side ≡ D → l .state ≡ Transporting → received l RevokeBoardAvailable id ≡ unmoved
-  late-revoke-transporting es et = received-by l RevokeBoardAvailable id (To Transporting) (rw (et, es) (revoke-transporting _)) ∙ rw et
+  pub late-revoke-transporting : e .kind ≡ RevokeBoardAvailable → l .side ≡ D → l .state ≡ Transporting → received l e ≡ unmoved
+  late-revoke-transporting k es et = received-by l e (To Transporting) (rw (et, es, k) (revoke-transporting _)) ∙ rw (et, k)
 
-  pub late-revoke-stopped : l .side ≡ D → l .state ≡ Stopped → received l RevokeBoardAvailable id ≡ unmoved
-  late-revoke-stopped es et = received-by l RevokeBoardAvailable id (To Stopped) (rw (et, es) (revoke-stopped _)) ∙ rw et
+  pub late-revoke-stopped : e .kind ≡ RevokeBoardAvailable → l .side ≡ D → l .state ≡ Stopped → received l e ≡ unmoved
+  late-revoke-stopped k es et = received-by l e (To Stopped) (rw (et, es, k) (revoke-stopped _)) ∙ rw (et, k)

@@ -1,12 +1,12 @@
 -- "Notification, CheckAlive and kind 0 come from either side in every state and change neither the state nor an id in use; kind 0 can't be sent (8)."
-use mathlib.Core.Path.{_≡_, refl}
-use mathlib.Core.List.{List}
+use mathlib.Core.Path.{_≡_, refl, _∙_}
 use mathlib.Core.Bool.{Bool}
 use Prim.Native.Nat.{ℕ}
 use Rattle.lane.specs.Names.{Unknown, Notification, CheckAlive, NoOrder, Accepted, MayNotBeSent}
 use Rattle.lane.specs.Chart.{pick, Received, Sent, next}
 use Rattle.lane.specs.Record.{noId, offeredUsed, runningUsed, kept, received, sent}
 use Rattle.lane.specs.Laws.{received-by, sent-by}
+use Rattle.lane.specs.declared.Event.{Event}
 use Rattle.lane.specs.declared.Lane.{Lane}
 use Rattle.lane.specs.declared.Moved.{Moved}
 use Rattle.lane.specs.declared.chart.Step.the-variants.{To, NoTransition}
@@ -41,21 +41,21 @@ unknown-sent : (s u : ℕ) (same : Bool) → next s Unknown u Sent same ≡ NoTr
 unfolding next
 unknown-sent s u same = refl
 
-module _ (l : Lane) (id : List ℕ) where
-  pub notification-received : received l Notification id ≡ passed l
-  notification-received = received-by l Notification id (To (l .state)) (notification _ _ _ _)
+module _ (l : Lane) (e : Event) where
+  pub notification-received : e .kind ≡ Notification → received l e ≡ passed l
+  notification-received k = received-by l e (To (l .state)) (rw k (notification _ _ _ _)) ∙ rw k
 
-  pub check-alive-received : received l CheckAlive id ≡ passed l
-  check-alive-received = received-by l CheckAlive id (To (l .state)) (check-alive _ _ _ _)
+  pub check-alive-received : e .kind ≡ CheckAlive → received l e ≡ passed l
+  check-alive-received k = received-by l e (To (l .state)) (rw k (check-alive _ _ _ _)) ∙ rw k
 
-  pub unknown-received : received l Unknown id ≡ passed l
-  unknown-received = received-by l Unknown id (To (l .state)) (unknown _ _ _)
+  pub unknown-received : e .kind ≡ Unknown → received l e ≡ passed l
+  unknown-received k = received-by l e (To (l .state)) (rw k (unknown _ _ _)) ∙ rw k
 
-  pub notification-sent : sent l Notification id ≡ passed l
-  notification-sent = sent-by l Notification id (To (l .state)) (notification _ _ _ _)
+  pub notification-sent : e .kind ≡ Notification → sent l e ≡ passed l
+  notification-sent k = sent-by l e (To (l .state)) (rw k (notification _ _ _ _)) ∙ rw k
 
-  pub check-alive-sent : sent l CheckAlive id ≡ passed l
-  check-alive-sent = sent-by l CheckAlive id (To (l .state)) (check-alive _ _ _ _)
+  pub check-alive-sent : e .kind ≡ CheckAlive → sent l e ≡ passed l
+  check-alive-sent k = sent-by l e (To (l .state)) (rw k (check-alive _ _ _ _)) ∙ rw k
 
-  pub unknown-not-sent : sent l Unknown id ≡ kept l MayNotBeSent
-  unknown-not-sent = sent-by l Unknown id NoTransition (unknown-sent _ _ _)
+  pub unknown-not-sent : e .kind ≡ Unknown → sent l e ≡ kept l MayNotBeSent
+  unknown-not-sent k = sent-by l e NoTransition (rw k (unknown-sent _ _ _))

@@ -7,9 +7,10 @@ use Prim.Native.Nat.{ℕ}
 use native.Mathlib.Omega.{arith}
 use lib.Dec.{T, eqb, eqb→eq}
 use borrow.Author.Tests.{eq-eqb}
-use Rattle.lane.specs.Chart.{both, either, isFree, mayPass, mayName, Row, chart, byRows, isFor, next, Received, Sent}
+use Rattle.lane.specs.Chart.{both, either, isFree, mayPass, mayName, Row, chart, byRows, isFor, next}
 use Rattle.lane.specs.Names.{MayNotBeSent, ProtocolError}
-use Rattle.lane.specs.Record.{sameId, carriesOwn, answer, ended, kept, other, received, sent}
+use Rattle.lane.specs.Record.{sameId, answer, ended, kept, stepIn, stepOut, received, sent}
+use Rattle.lane.specs.declared.Event.{Event}
 use Rattle.lane.specs.declared.Lane.{Lane}
 use Rattle.lane.specs.declared.chart.Step.{Step}
 use Rattle.lane.specs.declared.chart.Step.the-variants.{To, NoTransition}
@@ -83,10 +84,10 @@ next-cases s k u r same n q = free (isFree k) refl (mayPass k r) refl (mayName k
     free false ef p ep false em = absurd (let w : NoTransition ≡ To n = rw (ef, em) at q in let z : _≡_ {A = ℕ} 0 1 = cc in omega arith)
 
 -- The step, once known, is put into the answer.
-pub received-by : (l : Lane) (k : ℕ) (id : List ℕ) (st : Step) → next (l .state) k (other (l .side)) Received (carriesOwn l k id) ≡ st → received l k id ≡ answer st l k id (ended l ProtocolError)
+pub received-by : (l : Lane) (e : Event) (st : Step) → stepIn l e ≡ st → received l e ≡ answer st l e (ended l ProtocolError)
 unfolding received
-received-by l k id st h = rw h
+received-by l e st h = rw h
 
-pub sent-by : (l : Lane) (k : ℕ) (id : List ℕ) (st : Step) → next (l .state) k (l .side) Sent (carriesOwn l k id) ≡ st → sent l k id ≡ answer st l k id (kept l MayNotBeSent)
+pub sent-by : (l : Lane) (e : Event) (st : Step) → stepOut l e ≡ st → sent l e ≡ answer st l e (kept l MayNotBeSent)
 unfolding sent
-sent-by l k id st h = rw h
+sent-by l e st h = rw h

@@ -11,6 +11,7 @@ pub mod Belt
 pub mod Orders
 pub mod Free
 pub mod Bench
+pub mod Examples
 pub mod Only
 -- For proofs only:
 pub mod Laws

@@ -1,9 +1,9 @@
 -- No second result meets a public call's promise.
 use mathlib.Core.Path.{_≡_, sym, _∙_}
-use mathlib.Core.List.{List}
 use Prim.Native.Nat.{ℕ}
 use Rattle.lane.specs.Names.{U, D}
 use Rattle.lane.specs.Record.{fresh, blank, ended, received, sent}
+use Rattle.lane.specs.declared.Event.{Event}
 use Rattle.lane.specs.declared.Lane.{Lane}
 use Rattle.lane.specs.declared.Moved.{Moved}
 
@@ -22,8 +22,8 @@ lost-only l a b = only
 pub ended-only : (l : Lane) (refusal : ℕ) (a b : Moved) → a ≡ ended l refusal → b ≡ ended l refusal → a ≡ b
 ended-only l refusal a b = only
 
-pub received-only : (l : Lane) (k : ℕ) (id : List ℕ) (a b : Moved) → a ≡ received l k id → b ≡ received l k id → a ≡ b
-received-only l k id a b = only
+pub received-only : (l : Lane) (e : Event) (a b : Moved) → a ≡ received l e → b ≡ received l e → a ≡ b
+received-only l e a b = only
 
-pub sent-only : (l : Lane) (k : ℕ) (id : List ℕ) (a b : Moved) → a ≡ sent l k id → b ≡ sent l k id → a ≡ b
-sent-only l k id a b = only
+pub sent-only : (l : Lane) (e : Event) (a b : Moved) → a ≡ sent l e → b ≡ sent l e → a ≡ b
+sent-only l e a b = only

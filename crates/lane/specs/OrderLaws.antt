@@ -9,35 +9,38 @@ use lib.Dec.{T, eqb, eqb→eq}
 use borrow.Author.Tests.{eqb-true}
 use Rattle.lane.specs.Names.{U, D, Ready, Both, StartTransport, NoOrder, Run, Cancel, StopNow}
 use Rattle.lane.specs.Chart.{pick, both, either, among, Sent, chart, byRows, next}
-use Rattle.lane.specs.Record.{startOrder, other}
+use Rattle.lane.specs.Record.{carriesOwn, startOrder, other}
 use Rattle.lane.specs.Laws.{both-parts, by-rows, next-cases}
+use Rattle.lane.specs.declared.Event.{Event}
+use Rattle.lane.specs.declared.Lane.{Lane}
 use Rattle.lane.specs.declared.chart.Step.the-variants.{To, NoTransition}
 
 -- what an order says of the message
-pub run-says : (s k : ℕ) (same : Bool) → startOrder s k same ≡ Run → (k ≡ StartTransport) × (s ≡ Both) × (same ≡ true)
-run-says s k same q = go (eqb k 7) refl (eqb s 5) refl same refl
-  where
-    go : (a : Bool) → eqb k 7 ≡ a → (b : Bool) → eqb s 5 ≡ b → (c : Bool) → same ≡ c → (k ≡ StartTransport) × (s ≡ Both) × (same ≡ true)
-    go true ea true eb true ec = (eqb-true k 7 ea, eqb-true s 5 eb, ec)
-    go true ea true eb false ec = absurd (let w : _≡_ {A = ℕ} 2 1 = rw (ea, eb, ec) at q in omega arith)
-    go true ea false eb c ec = absurd (let w : _≡_ {A = ℕ} 2 1 = rw (ea, eb) at q in omega arith)
-    go false ea b eb c ec = absurd (let w : _≡_ {A = ℕ} 0 1 = rw ea at q in omega arith)
+module _ (l : Lane) (e : Event) where
+  pub run-says : startOrder l e ≡ Run → (e .kind ≡ StartTransport) × (l .state ≡ Both) × (carriesOwn l e ≡ true)
+  run-says q = go (eqb (e .kind) 7) refl (eqb (l .state) 5) refl (carriesOwn l e) refl
+    where
+      go : (a : Bool) → eqb (e .kind) 7 ≡ a → (b : Bool) → eqb (l .state) 5 ≡ b → (c : Bool) → carriesOwn l e ≡ c → (e .kind ≡ StartTransport) × (l .state ≡ Both) × (carriesOwn l e ≡ true)
+      go true ea true eb true ec = (eqb-true (e .kind) 7 ea, eqb-true (l .state) 5 eb, ec)
+      go true ea true eb false ec = absurd (let w : _≡_ {A = ℕ} 2 1 = rw (ec, ea, eb) at q in omega arith)
+      go true ea false eb c ec = absurd (let w : _≡_ {A = ℕ} 2 1 = rw (ea, eb) at q in omega arith)
+      go false ea b eb c ec = absurd (let w : _≡_ {A = ℕ} 0 1 = rw ea at q in omega arith)
 
-pub cancel-says : (s k : ℕ) (same : Bool) → startOrder s k same ≡ Cancel → (k ≡ StartTransport) × (both (eqb s Both) same ≡ false)
-cancel-says s k same q = go (eqb k 7) refl (both (eqb s 5) same) refl
-  where
-    go : (a : Bool) → eqb k 7 ≡ a → (b : Bool) → both (eqb s 5) same ≡ b → (k ≡ StartTransport) × (both (eqb s 5) same ≡ false)
-    go true ea true eb = absurd (let w : _≡_ {A = ℕ} 1 2 = rw (ea, eb) at q in omega arith)
-    go true ea false eb = (eqb-true k 7 ea, eb)
-    go false ea b eb = absurd (let w : _≡_ {A = ℕ} 0 2 = rw ea at q in omega arith)
+  pub cancel-says : startOrder l e ≡ Cancel → (e .kind ≡ StartTransport) × (both (eqb (l .state) Both) (carriesOwn l e) ≡ false)
+  cancel-says q = go (eqb (e .kind) 7) refl (both (eqb (l .state) 5) (carriesOwn l e)) refl
+    where
+      go : (a : Bool) → eqb (e .kind) 7 ≡ a → (b : Bool) → both (eqb (l .state) 5) (carriesOwn l e) ≡ b → (e .kind ≡ StartTransport) × (both (eqb (l .state) 5) (carriesOwn l e) ≡ false)
+      go true ea true eb = absurd (let w : _≡_ {A = ℕ} 1 2 = rw (eb, ea) at q in omega arith)
+      go true ea false eb = (eqb-true (e .kind) 7 ea, eb)
+      go false ea b eb = absurd (let w : _≡_ {A = ℕ} 0 2 = rw ea at q in omega arith)
 
-pub stop-not : (s k : ℕ) (same : Bool) → startOrder s k same ≡ StopNow → ⊥
-stop-not s k same q = go (eqb k 7) refl (both (eqb s 5) same) refl
-  where
-    go : (a : Bool) → eqb k 7 ≡ a → (b : Bool) → both (eqb s 5) same ≡ b → ⊥
-    go true ea true eb = (let w : _≡_ {A = ℕ} 1 3 = rw (ea, eb) at q in omega arith)
-    go true ea false eb = (let w : _≡_ {A = ℕ} 2 3 = rw (ea, eb) at q in omega arith)
-    go false ea b eb = (let w : _≡_ {A = ℕ} 0 3 = rw ea at q in omega arith)
+  pub stop-not : startOrder l e ≡ StopNow → ⊥
+  stop-not q = go (eqb (e .kind) 7) refl (both (eqb (l .state) 5) (carriesOwn l e)) refl
+    where
+      go : (a : Bool) → eqb (e .kind) 7 ≡ a → (b : Bool) → both (eqb (l .state) 5) (carriesOwn l e) ≡ b → ⊥
+      go true ea true eb = (let w : _≡_ {A = ℕ} 1 3 = rw (eb, ea) at q in omega arith)
+      go true ea false eb = (let w : _≡_ {A = ℕ} 2 3 = rw (eb, ea) at q in omega arith)
+      go false ea b eb = (let w : _≡_ {A = ℕ} 0 3 = rw ea at q in omega arith)
 
 pub end-not : (b : Bool) (n : ℕ) → (n ≡ Run) ⊎ (n ≡ Cancel) → pick b StopNow NoOrder ≡ n → ⊥
 end-not true n w q = ⊎-elim (λ e. let x : _≡_ {A = ℕ} 3 1 = q ∙ e in omega arith) (λ e. let x : _≡_ {A = ℕ} 3 2 = q ∙ e in omega arith) w

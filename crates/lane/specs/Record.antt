@@ -7,6 +7,7 @@ use lib.Dec.{eqb}
 use lib.ListN.{replicate}
 use Rattle.lane.specs.Names.{U, D, NotConnected, Offered, Both, Transporting, Stopped, Finished, BoardAvailable, StartTransport, NoOrder, Run, Cancel, StopNow, Accepted, MayNotBeSent, ProtocolError}
 use Rattle.lane.specs.Chart.{pick, both, among, Received, Sent, next}
+use Rattle.lane.specs.declared.Event.{Event}
 use Rattle.lane.specs.declared.Lane.{Lane}
 use Rattle.lane.specs.declared.Moved.{Moved}
 use Rattle.lane.specs.declared.chart.Step.{Step}
@@ -27,10 +28,6 @@ sameId (x ∷ xs) (y ∷ ys) = both (eqb x y) (sameId xs ys)
 abbrev pub fresh : ℕ → Lane
 fresh side = record { side = side; state = NotConnected; offered = noId; running = noId }
 
--- ", and a lost connection brings it back there."
-abbrev pub blank : Lane → Lane
-blank l = fresh (l .side)
-
 -- "The offered id is in use in Offered and Both"
 abbrev pub offeredUsed : ℕ → Bool
 offeredUsed s = among s (Offered ∷ Both ∷ [])
@@ -39,55 +36,68 @@ offeredUsed s = among s (Offered ∷ Both ∷ [])
 abbrev pub runningUsed : ℕ → Bool
 runningUsed s = among s (Transporting ∷ Stopped ∷ Finished ∷ [])
 
--- The ids, once a message of kind k with an id has led to state n.
-abbrev pub offeredIn : ℕ → Lane → ℕ → List ℕ → List ℕ
-offeredIn n l k id = pick (offeredUsed n) (pick (eqb k BoardAvailable) id (l .offered)) noId
+-- The ids, once a message has led to state n.
+abbrev pub offeredIn : ℕ → Lane → Event → List ℕ
+offeredIn n l e = pick (offeredUsed n) (pick (eqb (e .kind) BoardAvailable) (e .id) (l .offered)) noId
 
-abbrev pub runningIn : ℕ → Lane → ℕ → List ℕ → List ℕ
-runningIn n l k id = pick (runningUsed n) (pick (eqb k StartTransport) id (l .running)) noId
+abbrev pub runningIn : ℕ → Lane → Event → List ℕ
+runningIn n l e = pick (runningUsed n) (pick (eqb (e .kind) StartTransport) (e .id) (l .running)) noId
 
 -- A message carries the id that it is held against: StartTransport the offered one, Stop and Finished the running one.
-abbrev pub carriesOwn : Lane → ℕ → List ℕ → Bool
-carriesOwn l k id = sameId (pick (eqb k StartTransport) (l .offered) (l .running)) id
+abbrev pub carriesOwn : Lane → Event → Bool
+carriesOwn l e = sameId (pick (eqb (e .kind) StartTransport) (l .offered) (l .running)) (e .id)
 
 -- "A received StartTransport in Both with the offered id orders the belt to run (1); with another id, or in Ready, it orders cancel (2)"; "Sent, it .. orders run."
-abbrev pub startOrder : ℕ → ℕ → Bool → ℕ
-startOrder s k same = pick (eqb k StartTransport) (pick (both (eqb s Both) same) Run Cancel) NoOrder
+abbrev pub startOrder : Lane → Event → ℕ
+startOrder l e = pick (eqb (e .kind) StartTransport) (pick (both (eqb (l .state) Both) (carriesOwn l e)) Run Cancel) NoOrder
 
 -- "Belt order 3, stop now, is given when a refusal that ends the connection meets Transporting, Stopped or Finished. Otherwise 0."
 abbrev pub endOrder : ℕ → ℕ
 endOrder s = pick (among s (Transporting ∷ Stopped ∷ Finished ∷ [])) StopNow NoOrder
 
--- A refusal that ends the connection: the record becomes NotConnected.
-abbrev pub ended : Lane → ℕ → Moved
-ended l refusal = record { refusal = refusal; lane = blank l; order = endOrder (l .state) }
+-- A record comes of another one in three ways: kept, blank, accepted.
 
 -- A refusal that keeps the record: "a kept record keeps them too", bit for bit.
 abbrev pub kept : Lane → ℕ → Moved
 kept l refusal = record { refusal = refusal; lane = l; order = NoOrder }
 
+-- "a lost connection brings it back" to NotConnected; the rest of the record stays.
+abbrev pub blank : Lane → Lane
+blank l = record { side = l .side; state = NotConnected; offered = noId; running = noId }
+
 -- An accepted message that leads to state n.
-abbrev pub accepted : ℕ → Lane → ℕ → List ℕ → Moved
-accepted n l k id =
+abbrev pub accepted : ℕ → Lane → Event → Moved
+accepted n l e =
     record {
       refusal = Accepted;
-      lane = record { side = l .side; state = n; offered = offeredIn n l k id; running = runningIn n l k id };
-      order = startOrder (l .state) k (carriesOwn l k id);
+      lane = record { side = l .side; state = n; offered = offeredIn n l e; running = runningIn n l e };
+      order = startOrder l e;
     }
 
+-- A refusal that ends the connection: the record becomes NotConnected.
+abbrev pub ended : Lane → ℕ → Moved
+ended l refusal = record { refusal = refusal; lane = blank l; order = endOrder (l .state) }
+
 -- The answer, by the chart's step: accepted, or else the refusal.
-abbrev pub answer : Step → Lane → ℕ → List ℕ → Moved → Moved
-answer (To n) l k id refused = accepted n l k id
-answer NoTransition l k id refused = refused
+abbrev pub answer : Step → Lane → Event → Moved → Moved
+answer (To n) l e refused = accepted n l e
+answer NoTransition l e refused = refused
 
 -- What we receive, the other side has sent; to a side that is neither U nor D, nobody sends.
 abbrev pub other : ℕ → ℕ
 other side = pick (eqb side U) D (pick (eqb side D) U 0)
 
+-- The chart's step for a message that is received, and for one that is to be sent.
+abbrev pub stepIn : Lane → Event → Step
+stepIn l e = next (l .state) (e .kind) (other (l .side)) Received (carriesOwn l e)
+
+abbrev pub stepOut : Lane → Event → Step
+stepOut l e = next (l .state) (e .kind) (l .side) Sent (carriesOwn l e)
+
 -- A received message without a transition: "9 .. protocol error | NotConnected".
-unfoldable pub received : Lane → ℕ → List ℕ → Moved
-received l k id = answer (next (l .state) k (other (l .side)) Received (carriesOwn l k id)) l k id (ended l ProtocolError)
+unfoldable pub received : Lane → Event → Moved
+received l e = answer (stepIn l e) l e (ended l ProtocolError)
 
 -- A message that is to be sent without a transition: "8 | may not be sent | kept".
-unfoldable pub sent : Lane → ℕ → List ℕ → Moved
-sent l k id = answer (next (l .state) k (l .side) Sent (carriesOwn l k id)) l k id (kept l MayNotBeSent)
+unfoldable pub sent : Lane → Event → Moved
+sent l e = answer (stepOut l e) l e (kept l MayNotBeSent)

@@ -23,6 +23,12 @@ pub struct Lane {
     pub running: [u8; 36],
 }
 
+/// What the chart looks at in a message: its kind, and its BoardId (any bytes where its kind has none).
+pub struct Event {
+    pub kind: u8,
+    pub id: [u8; 36],
+}
+
 /// What a message did: a refusal number (0: accepted), the lane after it, and the belt order.
 pub struct Moved {
     pub refusal: u8,
@@ -58,14 +64,14 @@ impl Lane {
     pub fn lost(self) -> Self
         ensures { λ r. ⌜ r ≡ says.blank self ⌝ }
     {
-        fresh(self.side)
+        self.blank()
     }
 
     /// The answer to a refusal that ends the connection: the lane is NotConnected, and a board under way is stopped.
     pub fn ended(self, refusal: u8) -> Moved
         ensures { λ r. ⌜ r ≡ says.ended self refusal ⌝ }
     {
-        let lane = self.lost();
+        let lane = self.blank();
         if under_way(self.state) {
             return Moved {
                 refusal,
@@ -80,43 +86,62 @@ impl Lane {
         }
     }
 
-    /// What a received message of a kind does; `id` is its BoardId, where it has one.
+    /// What a received message does.
     /// Where the chart has no transition, the connection ends with a protocol error.
-    pub fn received(self, kind: u8, id: [u8; 36]) -> Moved
-        ensures { λ r. ⌜ r ≡ says.received self kind id ⌝ }
+    pub fn received(self, event: Event) -> Moved
+        ensures { λ r. ⌜ r ≡ says.received self event ⌝ }
     {
-        let same = self.carries_own(kind, id);
-        match next(self.state, kind, other(self.side), true, same) {
-            Step::To(n) => self.accepted(n, kind, id),
+        let same = self.carries_own(event);
+        match next(self.state, event.kind, other(self.side), true, same) {
+            Step::To(n) => self.accepted(n, event),
             Step::NoTransition => self.ended(Refusal::PROTOCOL_ERROR),
         }
     }
 
-    /// What sending a message of a kind does; `id` is its BoardId, where it has one.
+    /// What sending a message does.
     /// Where the chart has no transition, the message may not be sent, and the lane is kept.
-    pub fn sent(self, kind: u8, id: [u8; 36]) -> Moved
-        ensures { λ r. ⌜ r ≡ says.sent self kind id ⌝ }
+    pub fn sent(self, event: Event) -> Moved
+        ensures { λ r. ⌜ r ≡ says.sent self event ⌝ }
     {
-        let same = self.carries_own(kind, id);
-        match next(self.state, kind, self.side, false, same) {
-            Step::To(n) => self.accepted(n, kind, id),
-            Step::NoTransition => Moved {
-                refusal: Refusal::MAY_NOT_BE_SENT,
-                lane: self,
-                order: Order::NONE,
-            },
+        let same = self.carries_own(event);
+        match next(self.state, event.kind, self.side, false, same) {
+            Step::To(n) => self.accepted(n, event),
+            Step::NoTransition => self.kept(Refusal::MAY_NOT_BE_SENT),
         }
     }
 }
 
+// The three ways in which a record comes of another one.
 impl Lane {
-    // The answer to an accepted message that leads to state `n`.
-    fn accepted(self, n: u8, kind: u8, id: [u8; 36]) -> Moved
-        ensures { λ r. ⌜ r ≡ says.accepted n self kind id ⌝ }
+    // A refusal that keeps the record.
+    fn kept(self, refusal: u8) -> Moved
+        ensures { λ r. ⌜ r ≡ says.kept self refusal ⌝ }
     {
-        let offered = self.offered_in(n, kind, id);
-        let running = self.running_in(n, kind, id);
-        let order = self.start_order(kind, id);
+        Moved {
+            refusal,
+            lane: self,
+            order: Order::NONE,
+        }
+    }
+
+    // The record without a connection.
+    fn blank(self) -> Lane
+        ensures { λ r. ⌜ r ≡ says.blank self ⌝ }
+    {
+        let mut lane = self;
+        lane.state = State::NOT_CONNECTED;
+        lane.offered = [0u8; 36];
+        lane.running = [0u8; 36];
+        lane
+    }
+
+    // An accepted message that leads to state `n`: the record there, with its ids, and the belt order.
+    fn accepted(self, n: u8, event: Event) -> Moved
+        ensures { λ r. ⌜ r ≡ says.accepted n self event ⌝ }
+    {
+        let offered = self.offered_in(n, event);
+        let running = self.running_in(n, event);
+        let order = self.start_order(event);
         let lane = Lane {
             side: self.side,
             state: n,
@@ -129,15 +154,17 @@ impl Lane {
             order,
         }
     }
+}
 
-    // The offered id in state `n`, to which a message of a kind with an id led.
-    fn offered_in(self, n: u8, kind: u8, id: [u8; 36]) -> [u8; 36]
-        ensures { λ r. ⌜ r ≡ says.offeredIn n self kind id ⌝ }
+impl Lane {
+    // The offered id in state `n`, to which a message led.
+    fn offered_in(self, n: u8, event: Event) -> [u8; 36]
+        ensures { λ r. ⌜ r ≡ says.offeredIn n self event ⌝ }
     {
         match n {
             State::OFFERED | State::BOTH => {
-                if kind == Kind::BOARD_AVAILABLE {
-                    return id;
+                if event.kind == Kind::BOARD_AVAILABLE {
+                    return event.id;
                 }
                 self.offered
             }
@@ -145,13 +172,13 @@ impl Lane {
         }
     }
 
-    // The running id in state `n`, to which a message of a kind with an id led.
-    fn running_in(self, n: u8, kind: u8, id: [u8; 36]) -> [u8; 36]
-        ensures { λ r. ⌜ r ≡ says.runningIn n self kind id ⌝ }
+    // The running id in state `n`, to which a message led.
+    fn running_in(self, n: u8, event: Event) -> [u8; 36]
+        ensures { λ r. ⌜ r ≡ says.runningIn n self event ⌝ }
     {
         if under_way(n) {
-            if kind == Kind::START_TRANSPORT {
-                return id;
+            if event.kind == Kind::START_TRANSPORT {
+                return event.id;
             }
             return self.running;
         }
@@ -159,12 +186,12 @@ impl Lane {
     }
 
     // The belt order of an accepted message.
-    fn start_order(self, kind: u8, id: [u8; 36]) -> u8
-        ensures { λ r. ⌜ r ≡ says.startOrder (self .state) kind (says.carriesOwn self kind id) ⌝ }
+    fn start_order(self, event: Event) -> u8
+        ensures { λ r. ⌜ r ≡ says.startOrder self event ⌝ }
     {
-        if kind == Kind::START_TRANSPORT {
+        if event.kind == Kind::START_TRANSPORT {
             if self.state == State::BOTH {
-                if self.carries_own(kind, id) {
+                if self.carries_own(event) {
                     return Order::RUN;
                 }
             }
@@ -174,10 +201,11 @@ impl Lane {
     }
 
     // Whether a message carries the id that it is held against.
-    fn carries_own(self, kind: u8, id: [u8; 36]) -> bool
-        ensures { λ r. ⌜ r ≡ says.carriesOwn self kind id ⌝ }
+    fn carries_own(self, event: Event) -> bool
+        ensures { λ r. ⌜ r ≡ says.carriesOwn self event ⌝ }
     {
-        if kind == Kind::START_TRANSPORT {
+        let id = event.id;
+        if event.kind == Kind::START_TRANSPORT {
             let offered = self.offered;
             return same_id(offered, id);
         }

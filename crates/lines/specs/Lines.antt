@@ -5,7 +5,7 @@ use Prim.Native.Nat.{ℕ, _+_}
 use lib.ListN.{drop}
 use Rattle.grammar.specs.Bytes.{Bytes}
 use Rattle.grammar.specs.Answer.{Ends, Answers, moreFrom, malformedAt, tooLongFrom}
-use Rattle.message.specs.Says.{saidOf}
+use Rattle.table.specs.Says.{saidOf}
 
 -- "a line per message: first byte, one past the last byte, kind, refusal"
 pub record MessageLine : Type 0 where

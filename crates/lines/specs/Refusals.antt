@@ -10,10 +10,10 @@ use Rattle.number.specs.Whole.{Whole, noInt, int, intOf}
 use Rattle.number.specs.Positive.{number, Number, noNumber, numberOf}
 use Rattle.number.specs.Guid.{guidOf}
 use Rattle.number.specs.Version.{versionOf}
-use Rattle.grammar.specs.Bytes.{Bytes, within, some, same}
+use Rattle.grammar.specs.Bytes.{Bytes, within, nonEmpty, same}
 use Rattle.grammar.specs.Tree.{Pair, Tree, tree, Forest, no-trees, tree-then}
-use Rattle.message.specs.Table.{Row, Form, words, someWords, whole, guid, version, positive, features}
-use Rattle.message.specs.Says.{Value, aText, anInt, anId, present, refused, TOO_LONG, when, ranged, measured, judged, without, given, nameOf, childrenOf, notes, featured, tried, refusalIn, first, refusalOf}
+use Rattle.table.specs.Table.{Row, Form, words, someWords, whole, guid, version, positive, features}
+use Rattle.table.specs.Says.{Value, aText, anInt, anId, present, refused, TOO_LONG, when, ranged, measured, judged, without, given, nameOf, childrenOf, notes, featured, tried, refusalIn, first, refusalOf}
 
 pub data Refusal (n : ℕ) : Type 0 where
   none-of-it : n ≡ 0 → Refusal n
@@ -44,8 +44,8 @@ judged-is (words n) v = go (leb (length v) n)
     go false = refuses (omega arith) (omega arith)
 judged-is (someWords n) v = go (leb (length v) n)
   where
-    go : (z : Bool) → Refusal (refusalIn (cond z (when (some v) (aText v)) (refused TOO_LONG)))
-    go true = when-is (some v) (aText v)
+    go : (z : Bool) → Refusal (refusalIn (cond z (when (nonEmpty v) (aText v)) (refused TOO_LONG)))
+    go true = when-is (nonEmpty v) (aText v)
     go false = refuses (omega arith) (omega arith)
 judged-is (whole lo hi) v = ranged-is lo hi (intOf v)
 judged-is guid v = when-is (guidOf v) (anId v)

@@ -12,9 +12,9 @@ use Rattle.grammar.specs.Limits.{MESSAGE}
 use Rattle.grammar.specs.Answer.{Behind, moreFrom, Answers}
 use Rattle.model.specs.Answers.{behind-one}
 use Rattle.model.specs.Theorems.{answers-only}
-use Rattle.message.specs.Table.{rowsOf}
-use Rattle.message.specs.Says.{childOf, saidOf}
-use Rattle.lines.specs.Lines.{MessageLine, LastLine, FirstLine, EndLine, unfinished, Lists, list-end, list-line, Listing}
+use Rattle.table.specs.Table.{rowsOf}
+use Rattle.table.specs.Says.{childOf, saidOf}
+use Rattle.lines.specs.Lines.{MessageLine, LastLine, FirstLine, EndLine, unfinished, malformed, too-long, Lists, list-end, list-line, Listing}
 use Rattle.lines.specs.Step.{Shows, ListStep}
 use Rattle.lines.specs.Refusals.{Refusal, refusal-is}
 use Rattle.lines.specs.Runs.{Run, run-read, run-line, run-drop, run-end}
@@ -51,6 +51,15 @@ line-within p = line-moves (p .shows)
 
 pub drop-within : {s : Bytes} {last : Bool} {glue : ℕ} → ListStep s last (Drop glue) → glue ≤ length s
 drop-within p = let q = p .shows .0 in omega (arith, q .starts, ap length (q .behind .whole), length-append (q .g) (q .x))
+
+-- places lie in the input, and a message starts before its end
+pub start-within : {s : Bytes} {m : MessageLine} → FirstLine s m → m .start ≤ m .end
+start-within f = omega (arith, f .message .starts, f .message .ends)
+
+pub end-within : {s : Bytes} {z : LastLine} → EndLine s z → z .place ≤ length s
+end-within {s} (unfinished start p e) = let q = ap (λ (z : LastLine). z .place) e in omega (arith, p .starts, ap length (p .behind .whole), length-append (p .g) (p .x))
+end-within {s} (malformed start place p e) = let q = ap (λ (z : LastLine). z .place) e in omega (arith, p .at-place, p .shorter, ap length (p .behind .whole), length-append (p .g) (p .x))
+end-within {s} (too-long start p e) = let q = ap (λ (z : LastLine). z .place) e in omega (arith, p .starts, ap length (p .behind .whole), length-append (p .g) (p .u ++ p .rest))
 
 -- "refusal (0, 4, 5 or 6)"
 pub line-refusal : {s : Bytes} {m : MessageLine} → FirstLine s m → Refusal (m .refusal)

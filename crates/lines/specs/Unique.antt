@@ -15,7 +15,7 @@ use Rattle.model.specs.Cuts.{message-starts}
 use Rattle.model.specs.Messages.{message-exact}
 use Rattle.model.specs.Theorems.{answers-total, answers-only}
 use Rattle.exact.specs.Exact.{unique}
-use Rattle.message.specs.Says.{saidOf}
+use Rattle.table.specs.Says.{saidOf}
 use Rattle.lines.specs.Lines.{MessageLine, LastLine, FirstLine, EndLine, unfinished, malformed, too-long, lineFrom, lastFrom, Lists, list-end, list-line}
 
 -- the answer behind a last line, and the line of an answer that ends no message

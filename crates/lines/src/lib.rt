@@ -39,7 +39,8 @@ fn unfinished(start: usize, last: bool) -> Listed
 pub fn list_step(window: &[u8], last: bool) -> Listed
     ensures { λ r. ⌜ ListStep (now (window .entry)) last r ⌝ }
 {
-    let c = message::check(window);
+    let mut cells = [0u64; 72];
+    let c = reads::check_cells(window, &mut cells);
     let refusal = c.refusal;
     match refusal {
         1 => unfinished(c.start, last),
@@ -54,7 +55,7 @@ pub fn list_step(window: &[u8], last: bool) -> Listed
         _ => Listed::Line {
             start: c.start,
             end: c.end,
-            kind: c.message.kind,
+            kind: c.kind,
             refusal: refusal,
         },
     }

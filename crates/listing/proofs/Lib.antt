@@ -1,2 +1,4 @@
+pub mod LineLaws
 pub mod StepLaws
 pub mod WindowLaws
+pub mod ListLaws

@@ -5,11 +5,13 @@ use Prim.Native.Nat.{ℕ, _+_, _-_, _≤_}
 use native.Mathlib.Omega.{arith}
 use lib.ListN.{length, length-drop, length-take, take, drop}
 use Rattle.grammar.specs.Bytes.{Bytes}
+use Rattle.printing.specs.Writes.{wrote-none}
 use Rattle.lines.specs.Step.{ListStep}
 use Rattle.lines.specs.Theorems.{line-within, drop-within}
 use Rattle.lines.specs.declared.Listed.{Listed}
 use Rattle.lines.specs.declared.Listed.the-variants.{Line, Drop, End}
 use Rattle.listing.specs.Held.{Held, bytesOf, without, next, ends, Turned}
+use Rattle.listing.specs.Printed.{linePrinted, lastPrinted, stepPrinted, Printed}
 use Rattle.listing.specs.declared.window.Window.{Window}
 
 pub line-held : (b : Bytes) {last : Bool} {r : Listed} {a e k n : ℕ} (front back : ℕ) → ListStep (take (back - front) (drop front b)) last r → r ≡ Line a e k n → front ≤ back → front + e ≤ back
@@ -22,24 +24,36 @@ drop-held b {last} front back p h o =
     let q = drop-within (subst (λ (r : Listed). ListStep (take (back - front) (drop front b)) last r) h p) in
     omega (arith, q, length-take (back - front) (drop front b))
 
--- what each case of a step makes of the window
-pub turned-line : (b : Bytes) (w v : Window) (waiting : ℕ) {r : Listed} {a e k n : ℕ} → ListStep (bytesOf w b) (w .last) r → r ≡ Line a e k n → v ≡ without w e → Held w (length b) → Turned b w (record { window = v; waiting = waiting; done = false })
-turned-line b w v waiting {r} {a} {e} {k} {n} p h i o = record {
+-- what each case of a step makes of the window and of the output
+pub turned-line : (b : Bytes) (w v : Window) {old new : Bytes} {waiting put : ℕ} {r : Listed} {a e k n : ℕ} → ListStep (bytesOf w b) (w .last) r → r ≡ Line a e k n → v ≡ without w e → Held w (length b)
+    → Printed old waiting (linePrinted (w .base) a e k n) new put → Turned b w old waiting new (record { window = v; waiting = put; done = false })
+turned-line b w v {old} {new} {waiting} {put} {r} p h i o q = record {
   listed = r;
   step = p;
   window = i ∙ ap (next w) (sym h);
   done = ap ends (sym h);
+  printed = subst (λ (x : Listed). Printed old waiting (stepPrinted (w .base) x) new put) (sym h) q;
   held = subst (λ (v : Window). Held v (length b)) (sym i) (record { front = line-held b (w .at) (w .len) p h (o .front); back = o .back });
 }
 
-pub turned-drop : (b : Bytes) (w v : Window) (waiting : ℕ) {r : Listed} {g : ℕ} → ListStep (bytesOf w b) (w .last) r → r ≡ Drop g → v ≡ without w g → Held w (length b) → Turned b w (record { window = v; waiting = waiting; done = false })
-turned-drop b w v waiting {r} {g} p h i o = record {
+pub turned-drop : (b : Bytes) (w v : Window) (out : Bytes) (waiting : ℕ) {r : Listed} {g : ℕ} → ListStep (bytesOf w b) (w .last) r → r ≡ Drop g → v ≡ without w g → Held w (length b)
+    → waiting ≤ length out → Turned b w out waiting out (record { window = v; waiting = waiting; done = false })
+turned-drop b w v out waiting {r} p h i o q = record {
   listed = r;
   step = p;
   window = i ∙ ap (next w) (sym h);
   done = ap ends (sym h);
+  printed = subst (λ (x : Listed). Printed out waiting (stepPrinted (w .base) x) out waiting) (sym h) (record { wrote = wrote-none out waiting; inside = q });
   held = subst (λ (v : Window). Held v (length b)) (sym i) (record { front = drop-held b (w .at) (w .len) p h (o .front); back = o .back });
 }
 
-pub turned-end : (b : Bytes) (w : Window) (waiting : ℕ) {r : Listed} {a n : ℕ} → ListStep (bytesOf w b) (w .last) r → r ≡ End a n → Held w (length b) → Turned b w (record { window = w; waiting = waiting; done = true })
-turned-end b w waiting {r} p h o = record { listed = r; step = p; window = ap (next w) (sym h); done = ap ends (sym h); held = o }
+pub turned-end : (b : Bytes) (w : Window) {old new : Bytes} {waiting put : ℕ} {r : Listed} {a n : ℕ} → ListStep (bytesOf w b) (w .last) r → r ≡ End a n → Held w (length b)
+    → Printed old waiting (lastPrinted (w .base) a n) new put → Turned b w old waiting new (record { window = w; waiting = put; done = true })
+turned-end b w {old} {new} {waiting} {put} {r} p h o q = record {
+  listed = r;
+  step = p;
+  window = ap (next w) (sym h);
+  done = ap ends (sym h);
+  printed = subst (λ (x : Listed). Printed old waiting (stepPrinted (w .base) x) new put) (sym h) q;
+  held = o;
+}

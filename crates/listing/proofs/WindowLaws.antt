@@ -58,17 +58,18 @@ take-less n k x y h e = sym (take-take n k x h) ∙ ap (take n) e ∙ take-take 
 
 -- the three ways out of topping up
 pub topped-at-end : (w : Window) (b : Bytes) → Held w (length b) → w .last ≡ true → ToppedUp w b w b
-topped-at-end w b h e = record { held = h; more = []; bytes = sym (append-nil (bytesOf w b)); base = refl; enough = λ f. clash (sym e ∙ f) }
+topped-at-end w b h e = record { held = h; more = []; bytes = sym (append-nil (bytesOf w b)); base = refl; enough = λ f. clash (sym e ∙ f); ended = λ _. (e, refl) }
 
-pub topped-already : (w : Window) (b : Bytes) → Held w (length b) → MESSAGE ≤ w .len - w .at → ToppedUp w b w b
-topped-already w b h k = record { held = h; more = []; bytes = sym (append-nil (bytesOf w b)); base = refl; enough = λ _. k }
+pub topped-already : (w : Window) (b : Bytes) → Held w (length b) → w .last ≡ false → MESSAGE ≤ w .len - w .at → ToppedUp w b w b
+topped-already w b h e k = record { held = h; more = []; bytes = sym (append-nil (bytesOf w b)); base = refl; enough = λ _. k; ended = λ f. clash (sym f ∙ e) }
 
-pub topped-read : (w : Window) (old moved new : Bytes) (len : ℕ) → take (w .len - w .at) moved ≡ bytesOf w old → take (w .len - w .at) new ≡ take (w .len - w .at) moved → w .len - w .at ≤ len → len ≤ length new
+pub topped-read : (w : Window) (old moved new : Bytes) (len : ℕ) → w .last ≡ false → take (w .len - w .at) moved ≡ bytesOf w old → take (w .len - w .at) new ≡ take (w .len - w .at) moved → w .len - w .at ≤ len → len ≤ length new
     → MESSAGE ≤ length new → ToppedUp w old (record { base = w .base; at = 0; len = len; last = ltb len (length new) }) new
-topped-read w old moved new len e f h k m = let z : len - 0 ≡ len = omega arith in record {
+topped-read w old moved new len g e f h k m = let z : len - 0 ≡ len = omega arith in record {
   held = record { front = omega arith; back = k };
   more = drop (w .len - w .at) (take len new);
   bytes = ap (λ (k : ℕ). take k new) z ∙ sym (take-append-drop (w .len - w .at) (take len new)) ∙ ap (λ (y : Bytes). y ++ drop (w .len - w .at) (take len new)) (take-take (w .len - w .at) len new h ∙ f ∙ e);
   base = refl;
   enough = λ q. omega (arith, m, ltb-false len (length new) q);
+  ended = λ q. clash (sym q ∙ g);
 }

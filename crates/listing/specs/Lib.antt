@@ -1,2 +1,6 @@
+pub mod Printed
 pub mod Held
+pub mod Turns
 pub mod Theorems
+pub mod Prints
+pub mod Ends

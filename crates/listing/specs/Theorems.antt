@@ -2,9 +2,9 @@
 use mathlib.Core.Path.{_≡_, refl, sym, ap, subst, _∙_}
 use mathlib.Core.List.{List, [], _∷_, _++_}
 use mathlib.Core.Bool.{Bool, true, false}
-use Prim.Native.Nat.{ℕ, zero, suc, _+_, _-_, _≤_}
+use Prim.Native.Nat.{ℕ, zero, suc, _+_, _-_}
 use native.Mathlib.Omega.{arith}
-use lib.ListN.{take, drop}
+use lib.ListN.{length, length-drop, take, drop}
 use lib.Seq.{drop-nil, take-nil}
 use Rattle.grammar.specs.Bytes.{Bytes}
 use Rattle.lines.specs.Lines.{MessageLine, LastLine}
@@ -33,6 +33,9 @@ without-bytes w n b =
     let e : w .len - (w .at + n) ≡ w .len - w .at - n = omega arith in
     ap (λ (k : ℕ). take k (drop (w .at + n) b)) e ∙ ap (take (w .len - w .at - n)) (drop-drop (w .at) n b) ∙ sym (drop-take n (w .len - w .at) (drop (w .at) b))
 
+pub without-long : (w : Window) (n : ℕ) (b : Bytes) → length (bytesOf (without w n) b) ≡ length (bytesOf w b) - n
+without-long w n b = ap length (without-bytes w n b) ∙ length-drop n (bytesOf w b)
+
 -- what a turn adds to a run, by its step: from n dropped bytes, `before` held and `rest` to come, to `after` held and `later` to come
 abbrev pub Goes : ℕ → Bytes → Bytes → Bytes → Bytes → Listed → Type 0
 Goes n before rest after later (Line start end kind refusal) = (l : List MessageLine) (z : LastLine) → Run (n + end) after later l z → Run n before rest (record { start = n + start; end = n + end; kind = kind; refusal = refusal } ∷ l) z
@@ -40,9 +43,9 @@ Goes n before rest after later (Drop glue) = (l : List MessageLine) (z : LastLin
 Goes n before rest after later (End place answer) = Run n before rest [] (record { place = n + place; answer = answer })
 
 -- a window topped up from what is to come, and a turn on it, go on with a run: `last` is set only where nothing is to come
-pub turn-goes : {w r : Window} {old new : Bytes} {s : Stand} (t : ToppedUp w old r new) (u : Turned new r s) (n : ℕ) (later : Bytes) → (r .last ≡ true → later ≡ [])
+pub turn-goes : {w r : Window} {old new out printed : Bytes} {waiting : ℕ} {s : Stand} (t : ToppedUp w old r new) (u : Turned new r out waiting printed s) (n : ℕ) (later : Bytes) → (r .last ≡ true → later ≡ [])
     → Goes n (bytesOf w old) (t .more ++ later) (bytesOf (s .window) new) later (u .listed)
-turn-goes {w} {r} {old} {new} {s} t u n later h = go (u .listed) (u .step) (u .window)
+turn-goes {w} {r} {old} {new} {s = s} t u n later h = go (u .listed) (u .step) (u .window)
   where
     from : {l : List MessageLine} {z : LastLine} → Run n (bytesOf r new) later l z → Run n (bytesOf w old) (t .more ++ later) l z
     from {l} {z} p = run-read (t .more) later refl (subst (λ (y : Bytes). Run n y later l z) (t .bytes) p)

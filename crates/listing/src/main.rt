@@ -1,18 +1,22 @@
 // Lists the messages of standard input: a line for each, and a last line that says how the input ends.
 // Only a window of the input is held: list_step says of it what the whole input shows.
-ghost use Prim.Native.Nat.{_≤_};
+ghost use mathlib.Core.Path.{_≡_};
+ghost use mathlib.Core.Bool.{true, false};
+ghost use Prim.Native.Nat.{_+_, _≤_};
 ghost use lib.ListN.{length};
 ghost use Rattle.grammar.specs.Limits.{MESSAGE};
 ghost use Rattle.listing.specs.Held.{Held, Turned};
+ghost use Rattle.listing.specs.Printed.{LINE};
+ghost use Rattle.listing.specs.Turns.{Ended, Unended};
 
-mod printing; // printing.rt: lines into a buffer, and the buffer to standard output
+mod output; // output.rt: lines into a buffer, and the buffer to standard output
 mod window; // window.rt: the bytes that are held, read and moved
 
 use lines::Listed;
-use printing::end_line;
-use printing::flush;
-use printing::line;
-use printing::made_room;
+use output::end_line;
+use output::flush;
+use output::line;
+use output::made_room;
 use window::Window;
 use window::dropped;
 use window::topped_up;
@@ -27,7 +31,8 @@ struct Stand {
 // One step of the listing.
 fn turn(buf: &[u8], out: &mut [u8], waiting: usize, w: Window) -> Stand
     requires { ⌜ Held w (length (now buf)) ⌝ }
-    ensures { λ r. ⌜ Turned (now (buf .entry)) w r ⌝ }
+    requires { ⌜ waiting + LINE ≤ length (now out) ⌝ }
+    ensures { λ r. ⌜ Turned (now (buf .entry)) w (now (out .entry)) waiting (now (out .exit)) r ⌝ }
 {
     let at = w.at;
     let len = w.len;
@@ -59,9 +64,13 @@ fn turn(buf: &[u8], out: &mut [u8], waiting: usize, w: Window) -> Stand
     }
 }
 
-// Nothing says that the input ends, and a proved loop does: the turns are counted down from a number that no run uses up.
-fn list(buf: &mut [u8], out: &mut [u8])
+// Whether the last line was handed out. Nothing says that the input ends, and a proved loop does: the turns are counted down from
+// a number that only an input of 2^63 bytes uses up.
+fn list(buf: &mut [u8], out: &mut [u8]) -> bool
     requires { ⌜ MESSAGE ≤ length (now buf) ⌝ }
+    requires { ⌜ LINE ≤ length (now out) ⌝ }
+    ensures { λ r. ⌜ (r ≡ true → Ended (now (out .exit))) ⌝ }
+    ensures { λ r. ⌜ (r ≡ false → Unended (now (out .exit))) ⌝ }
 {
     let mut w = Window {
         base: 0,
@@ -79,10 +88,11 @@ fn list(buf: &mut [u8], out: &mut [u8])
         waiting = stand.waiting;
         if stand.done {
             flush(&*out, waiting);
-            return;
+            return true;
         }
         turns -= 1;
     }
+    false
 }
 
 fn main() {

@@ -1,10 +1,1 @@
-pub mod SameLaws
 pub mod MessageLaws
-pub mod JudgeLaws
-pub mod FindLaws
-pub mod FieldLaws
-pub mod KindLaws
-pub mod ChildLaws
-pub mod ToldLaws
-pub mod CheckLaws
-pub mod Theorems

@@ -15,8 +15,8 @@ use Rattle.tags.specs.Places.{valueAt, valueEnd}
 use Rattle.reader.specs.Outline.{childOf as inner, tagIn, lead}
 use Rattle.value.specs.declared.text.Words.{Words}
 use Rattle.value.specs.declared.text.Words.the-variants.{Absent, Present}
-use Rattle.message.specs.Table.{rowsOf}
-use Rattle.message.specs.Says.{childOf, saidOf}
+use Rattle.table.specs.Table.{rowsOf}
+use Rattle.table.specs.Says.{childOf, saidOf}
 use Rattle.message.specs.Fields.{fieldsIn, messageFrom, blank}
 use Rattle.message.specs.declared.kinds.Message.{Message}
 use Rattle.message.specs.declared.checking.Checked.{Checked}

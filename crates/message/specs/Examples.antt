@@ -1,18 +1,26 @@
--- Worked examples: what the table and its definitions say of small messages. They hold by computation.
+-- Worked examples: what each attribute hands out, and what the answers are. They hold by computation.
 use mathlib.Core.Path.{_≡_, refl}
 use mathlib.Core.List.{List, [], _∷_}
 use mathlib.Core.Bool.{true, false}
 use Prim.Native.Nat.{ℕ, zero, suc}
 use Prim.Native.String.{String}
-use Rattle.number.specs.Bytes.{blank, digit, hex, some, all, dropFront, keepBefore, dropBack, trim, valueFrom, before, behind, pointed}
+use lib.ListN.{length}
+use Rattle.number.specs.Bytes.{blank, digit, hex, nonEmpty, all, dropFront, keepBefore, dropBack, trim, valueFrom, before, behind, pointed}
 use Rattle.number.specs.Whole.{sized, signed, intOf}
-use Rattle.number.specs.Positive.{written, short, above, decimal, unsigned, parted, numberOf}
+use Rattle.number.specs.Positive.{written, short, above, millionths as decimals, decimal, unsigned, parted, numberOf}
 use Rattle.number.specs.Guid.{may, filled, guidOf}
 use Rattle.number.specs.Version.{oneToThree, versionOf}
 use Rattle.grammar.specs.Bytes.{Bytes, text, within}
 use Rattle.grammar.specs.Tree.{Pair, Tree, tree, Forest, no-trees, tree-then}
-use Rattle.message.specs.Table.{words, someWords, table, kindOf, rowsOf}
-use Rattle.message.specs.Says.{Result, absent, present, refused, aText, anInt, millionths, anId, noted, judged, tried, refusalOf, valuesOf, Said, saidOf}
+use Rattle.table.specs.Table.{words, someWords, whole, guid, version, positive, table, kindOf, rowsOf}
+use Rattle.value.specs.declared.id.Guid.{Guid}
+use Rattle.value.specs.declared.text.Words.{Words}
+use Rattle.value.specs.declared.text.Words.the-variants.{Absent, Present}
+use Rattle.message.specs.Fields.{fieldsIn, fieldOf, messageFrom, blank as nothing}
+use Rattle.message.specs.Checked.{unread, messageOf, judgedTo}
+use Rattle.message.specs.declared.values.Whole.the-variants.{Present as IsWhole}
+use Rattle.message.specs.declared.values.Measure.the-variants.{Present as IsMeasure}
+use Rattle.table.specs.Says.{Result, absent, present, refused, aText, anInt, millionths, anId, noted, judged, tried, refusalOf, valuesOf, Said, saidOf}
 
 infix 70 _:=_
 abbrev _:=_ : String → String → Pair
@@ -30,59 +38,6 @@ says n a = root (tree (text n) a no-trees)
 abbrev bare : String → Tree
 bare n = tree (text n) [] no-trees
 
--- kind and refusal of a reading
-abbrev Answers : Tree → ℕ → ℕ → Type 0
-Answers t k n = (saidOf t .kind ≡ k) × (saidOf t .refusal ≡ n)
-
--- n bytes `a`
-abbrev many : ℕ → Bytes
-many zero = []
-many (suc n) = 97 ∷ many n
-
--- "a name not in the attribute table is kind 0": byte for byte, and then no attribute counts
-pub unknown : Answers (says "checkalive" ("Type" := "9" ∷ [])) 0 0 × Answers (says "BoardForecast" []) 0 0
-unfolding kindOf rowsOf table refusalOf
-unknown = ((refl, refl), (refl, refl))
-
--- "Attributes are tried in table order, each for 4, 5, 6; the first decides", whatever their order in the message
-pub first-decides :
-    Answers (says "BoardAvailable" ("FlippedBoard" := "9" ∷ "BoardIdCreatedBy" := "m" ∷ "BoardId" := "01234567-89ab-cdef-0123-456789abcdef" ∷ [])) 3 4
-    × Answers (says "ServiceDescription" ("LaneId" := "0" ∷ "MachineId" := "m" ∷ [])) 1 6
-    × Answers (root (tree (text "ServiceDescription") (record { name = text "MachineId"; value = many 81 } ∷ []) no-trees)) 1 5
-unfolding kindOf rowsOf table refusalOf tried judged guidOf filled may hex intOf signed sized trim dropFront dropBack keepBefore blank digit all some valueFrom within
-first-decides = ((refl, refl), (refl, refl), (refl, refl))
-
--- the limits of a text, and an empty one: 80 bytes may stand, 81 not, none only where it need not be non-empty
-pub texts :
-    (judged (words 80) (many 80) ≡ present (aText (many 80)))
-    × (judged (words 80) (many 81) ≡ refused 5)
-    × (judged (words 80) [] ≡ present (aText []))
-    × (judged (someWords 80) [] ≡ refused 6)
-unfolding judged
-texts = (refl, refl, refl, refl)
-
--- each end of each range
-pub ranges :
-    Answers (says "MachineReady" ("FailedBoard" := "2" ∷ [])) 5 0
-    × Answers (says "MachineReady" ("FailedBoard" := "3" ∷ [])) 5 6
-    × Answers (says "MachineReady" ("FailedBoard" := "-0" ∷ [])) 5 0
-    × Answers (says "MachineReady" ("FailedBoard" := "-1" ∷ [])) 5 6
-    × Answers (says "CheckAlive" ("Type" := "0" ∷ [])) 10 6
-    × Answers (says "CheckAlive" ("Type" := "2" ∷ [])) 10 0
-    × Answers (says "CheckAlive" ("Type" := "3" ∷ [])) 10 6
-unfolding kindOf rowsOf table refusalOf tried judged intOf signed sized trim dropFront dropBack keepBefore blank digit all some valueFrom within
-ranges = ((refl, refl), (refl, refl), (refl, refl), (refl, refl), (refl, refl), (refl, refl), (refl, refl))
-
--- "An optional value is either absent or present with its value."
-pub optional : saidOf (says "CheckAlive" ("Id" := "" ∷ [])) .values ≡ absent ∷ present (aText []) ∷ []
-unfolding kindOf rowsOf table valuesOf tried judged
-optional = refl
-
--- the root's attributes never count as the message's
-pub root-ignored : saidOf (tree (text "Hermes") ("Type" := "9" ∷ "Timestamp" := "x" ∷ []) (tree-then (bare "CheckAlive") no-trees)) .values ≡ absent ∷ absent ∷ []
-unfolding kindOf rowsOf table valuesOf tried judged
-root-ignored = refl
-
 -- a ServiceDescription with children
 abbrev described : Forest → Tree
 described f = root (tree (text "ServiceDescription") ("MachineId" := "" ∷ "LaneId" := "1" ∷ "Version" := "1.2" ∷ []) f)
@@ -90,19 +45,79 @@ described f = root (tree (text "ServiceDescription") ("MachineId" := "" ∷ "Lan
 abbrev featuring : Forest → Tree
 featuring f = tree (text "SupportedFeatures") [] f
 
--- what a ServiceDescription says, its features last
-abbrev Describes : Forest → Result → Type 0
-Describes f r = saidOf (described f) .values ≡ present (aText []) ∷ present (anInt 1) ∷ present (aText (text "1.2")) ∷ r ∷ []
+-- an answer without a message; a message that is refused tells its kind and nothing else, one that is accepted all it says
+pub answers :
+    (unread 2 3 7 ≡ record { refusal = 2; start = 3; end = 0; place = 7; message = nothing 0 })
+    × (judgedTo 3 9 5 6 (nothing 1) ≡ record { refusal = 6; start = 3; end = 9; place = 0; message = nothing 5 })
+    × (judgedTo 3 9 5 0 (nothing 1) ≡ record { refusal = 0; start = 3; end = 9; place = 0; message = nothing 1 })
+answers = (refl, refl, refl)
 
--- "The first SupportedFeatures child counts; of its children .. are noted as present or not."
-pub no-features : Describes no-trees (refused 4)
-unfolding kindOf rowsOf table valuesOf tried judged versionOf oneToThree intOf signed sized trim dropFront dropBack keepBefore blank digit all some valueFrom within before behind pointed
-no-features = refl
+-- a raw value stands where its name says: at the name's first byte, as long as the rest of the name
+abbrev spot : Bytes → Words
+spot [] = Absent
+spot (b ∷ n) = Present (record { start = b; len = length n })
 
-pub first-counts : Describes (tree-then (bare "X") (tree-then (featuring no-trees) (tree-then (featuring (tree-then (bare "FeatureBoardForecast") no-trees)) no-trees))) (present (noted false false false))
-unfolding kindOf rowsOf table valuesOf tried judged versionOf oneToThree intOf signed sized trim dropFront dropBack keepBefore blank digit all some valueFrom within before behind pointed
-first-counts = refl
+abbrev at : String → Words
+at n = spot (text n)
 
-pub direct-children : Describes (tree-then (featuring (tree-then (tree (text "X") [] (tree-then (bare "FeatureBoardForecast") no-trees)) (tree-then (bare "FeatureSendBoardInfo") no-trees))) no-trees) (present (noted false false true))
-unfolding kindOf rowsOf table valuesOf tried judged versionOf oneToThree intOf signed sized trim dropFront dropBack keepBefore blank digit all some valueFrom within before behind pointed
-direct-children = refl
+-- the id of the examples
+abbrev someId : Guid
+someId = record { there = true; bytes = text "01234567-89ab-cdef-0123-456789abcdef" }
+
+-- each attribute is handed out in its own field
+pub board-fields :
+    messageOf 3 spot
+    (tree (text "BoardAvailable")
+    ("BoardId" := "01234567-89ab-cdef-0123-456789abcdef"
+    ∷ "BoardIdCreatedBy" := "c"
+    ∷ "FailedBoard" := "1"
+    ∷ "ProductTypeId" := "p"
+    ∷ "FlippedBoard" := "2"
+    ∷ "TopBarcode" := "t"
+    ∷ "BottomBarcode" := "b"
+    ∷ "Length" := "1"
+    ∷ "Width" := "2"
+    ∷ "Thickness" := ".5"
+    ∷ "ConveyorSpeed" := "4"
+    ∷ "TopClearanceHeight" := "5"
+    ∷ "BottomClearanceHeight" := "6"
+    ∷ "Weight" := "7"
+    ∷ "WorkOrderId" := "w"
+    ∷ [])
+    no-trees) .board
+    ≡ record {
+      id = someId;
+      by = at "BoardIdCreatedBy";
+      failed = IsWhole 1;
+      product = at "ProductTypeId";
+      flipped = IsWhole 2;
+      top = at "TopBarcode";
+      bottom = at "BottomBarcode";
+      length = IsMeasure 1000000;
+      width = IsMeasure 2000000;
+      thickness = IsMeasure 500000;
+      speed = IsMeasure 4000000;
+      above = IsMeasure 5000000;
+      below = IsMeasure 6000000;
+      weight = IsMeasure 7000000;
+      order = at "WorkOrderId";
+    }
+unfolding rowsOf table fieldsIn fieldOf messageFrom tried judged guidOf filled may hex intOf signed sized numberOf parted unsigned decimal written short above decimals before behind trim dropFront dropBack keepBefore blank digit all nonEmpty valueFrom within
+board-fields = refl
+
+pub service-fields :
+    messageOf 1 spot (tree (text "ServiceDescription") ("MachineId" := "m" ∷ "LaneId" := "7" ∷ "Version" := "1.6" ∷ []) (tree-then (featuring (tree-then (bare "FeatureQueryBoardInfo") no-trees)) no-trees)) .service
+    ≡ record { machine = at "MachineId"; lane = IsWhole 7; version = at "Version"; features = record { there = true; forecast = false; query = true; send = false } }
+unfolding rowsOf table fieldsIn fieldOf messageFrom tried judged intOf signed sized trim dropFront dropBack keepBefore blank digit all nonEmpty valueFrom within
+service-fields = refl
+
+pub other-fields :
+    (messageOf 2 spot (tree (text "Notification") ("NotificationCode" := "8" ∷ "Severity" := "3" ∷ "Description" := "d" ∷ []) no-trees) .notification
+    ≡ record { code = IsWhole 8; severity = IsWhole 3; description = at "Description" })
+    × (messageOf 5 spot (tree (text "MachineReady") ("FailedBoard" := "2" ∷ []) no-trees) .ready ≡ record { failed = IsWhole 2 })
+    × (messageOf 7 spot (tree (text "StartTransport") ("BoardId" := "01234567-89ab-cdef-0123-456789abcdef" ∷ "ConveyorSpeed" := "4" ∷ []) no-trees) .transport ≡ record { id = someId; speed = IsMeasure 4000000 })
+    × (messageOf 8 spot (tree (text "StopTransport") ("TransferState" := "3" ∷ "BoardId" := "01234567-89ab-cdef-0123-456789abcdef" ∷ []) no-trees) .transfer ≡ record { state = IsWhole 3; id = someId })
+    × (messageOf 9 spot (tree (text "TransportFinished") ("TransferState" := "1" ∷ "BoardId" := "01234567-89ab-cdef-0123-456789abcdef" ∷ []) no-trees) .transfer ≡ record { state = IsWhole 1; id = someId })
+    × (messageOf 10 spot (tree (text "CheckAlive") ("Type" := "2" ∷ "Id" := "i" ∷ []) no-trees) .alive ≡ record { ping = IsWhole 2; id = at "Id" })
+unfolding rowsOf table fieldsIn fieldOf messageFrom tried judged guidOf filled may hex intOf signed sized numberOf parted unsigned decimal written short above decimals before behind trim dropFront dropBack keepBefore blank digit all nonEmpty valueFrom within
+other-fields = (refl, refl, refl, refl, refl, refl)

@@ -11,8 +11,8 @@ use Rattle.value.specs.Ids.{noId}
 use Rattle.value.specs.declared.id.Guid.{Guid}
 use Rattle.value.specs.declared.text.Words.{Words}
 use Rattle.value.specs.declared.text.Words.the-variants.{Absent as NoWords}
-use Rattle.message.specs.Table.{Row, Form, words, someWords, whole, guid, version, positive, features, rowsOf}
-use Rattle.message.specs.Says.{Value, aText, anInt, millionths, anId, noted, Result, absent, present, refused, tried}
+use Rattle.table.specs.Table.{Row, Form, words, someWords, whole, guid, version, positive, features, rowsOf}
+use Rattle.table.specs.Says.{Value, aText, anInt, millionths, anId, noted, Result, absent, present, refused, tried}
 use Rattle.message.specs.declared.values.Whole.{Whole}
 use Rattle.message.specs.declared.values.Whole.the-variants.{Absent as NoWhole, Present as IsWhole}
 use Rattle.message.specs.declared.values.Measure.{Measure}
@@ -198,3 +198,55 @@ messageFrom k l = record {
 -- in which nothing is there
 abbrev pub blank : ℕ → Message
 blank k = record { kind = k; service = serviceFrom []; notification = noticeFrom []; board = boardFrom []; ready = readyFrom []; transport = startFrom []; transfer = transferFrom []; alive = aliveFrom [] }
+
+-- the other way
+
+-- each kind's fields, in table order
+abbrev pub serviceFields : Service → List Field
+serviceFields s = aWords (s .machine) ∷ aWhole (s .lane) ∷ aWords (s .version) ∷ aFeatures (s .features) ∷ []
+
+abbrev pub noticeFields : Notice → List Field
+noticeFields n = aWhole (n .code) ∷ aWhole (n .severity) ∷ aWords (n .description) ∷ []
+
+abbrev pub boardFields : Board → List Field
+boardFields b =
+    aGuid (b .id)
+    ∷ aWords (b .by)
+    ∷ aWhole (b .failed)
+    ∷ aWords (b .product)
+    ∷ aWhole (b .flipped)
+    ∷ aWords (b .top)
+    ∷ aWords (b .bottom)
+    ∷ aMeasure (b .length)
+    ∷ aMeasure (b .width)
+    ∷ aMeasure (b .thickness)
+    ∷ aMeasure (b .speed)
+    ∷ aMeasure (b .above)
+    ∷ aMeasure (b .below)
+    ∷ aMeasure (b .weight)
+    ∷ aWords (b .order)
+    ∷ []
+
+abbrev pub readyFields : Ready → List Field
+readyFields r = aWhole (r .failed) ∷ []
+
+abbrev pub startFields : Start → List Field
+startFields s = aGuid (s .id) ∷ aMeasure (s .speed) ∷ []
+
+abbrev pub transferFields : Transfer → List Field
+transferFields t = aWhole (t .state) ∷ aGuid (t .id) ∷ []
+
+abbrev pub aliveFields : Alive → List Field
+aliveFields a = aWhole (a .ping) ∷ aWords (a .id) ∷ []
+
+-- the fields of a message's kind: those of other kinds are ignored
+unfoldable pub fieldsOf : Message → List Field
+fieldsOf m =
+    cond (eqb (m .kind) 1) (serviceFields (m .service))
+    (cond (eqb (m .kind) 2) (noticeFields (m .notification))
+    (cond (eqb (m .kind) 3) (boardFields (m .board))
+    (cond (eqb (m .kind) 5) (readyFields (m .ready))
+    (cond (eqb (m .kind) 7) (startFields (m .transport))
+    (cond (eqb (m .kind) 8) (transferFields (m .transfer))
+    (cond (eqb (m .kind) 9) (transferFields (m .transfer))
+    (cond (eqb (m .kind) 10) (aliveFields (m .alive)) [])))))))

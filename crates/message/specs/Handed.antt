@@ -11,7 +11,7 @@ use Rattle.value.specs.Text.{Text}
 use Rattle.value.specs.declared.text.Span.{Span}
 use Rattle.value.specs.declared.text.Words.{Words}
 use Rattle.value.specs.declared.text.Words.the-variants.{Absent, Present}
-use Rattle.message.specs.Says.{childOf, saidOf}
+use Rattle.table.specs.Says.{childOf, saidOf}
 use Rattle.message.specs.Checked.{messageOf}
 use Rattle.message.specs.declared.checking.Checked.{Checked}
 

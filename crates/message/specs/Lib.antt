@@ -1,10 +1,6 @@
-pub mod Table
-pub mod Says
-pub mod Theorems
-pub mod Examples
+-- What is handed out of a message: Fields, Checked, Handed. The same as numbers: Cells.
 pub mod Fields
 pub mod Checked
-pub mod Held
-pub mod Children
-pub mod Kinds
 pub mod Handed
+pub mod Cells
+pub mod Examples

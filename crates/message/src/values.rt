@@ -3,7 +3,7 @@
 /// An int, if it is there.
 pub enum Whole {
     Absent,
-    Present(u32),
+    Present(u64),
 }
 
 /// A positive number in millionths, if it is there.

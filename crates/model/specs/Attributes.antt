@@ -12,7 +12,7 @@ use Rattle.exact.specs.Chain.{bindP, Map, mapped, mapP, map-exact, clash, If, y
 use Rattle.exact.specs.Byte.{On, on, onP, on-exact, Lit, lit, litP, eqb-true, lit-exact, Alt, left, right, Starts, starts, lit-starts, on-starts, choiceP, choice-exact, more-starts, is-byte}
 use Rattle.exact.specs.Token.{TokenFrom, token, tokenP}
 use Rattle.exact.specs.Loop.{Turn, again, stop, Loop, last, next, onward, loopP, loop-eq, loop-exact}
-use Rattle.grammar.specs.Bytes.{Bytes, text, within, digit, every, some, among}
+use Rattle.grammar.specs.Bytes.{Bytes, text, within, digit, every, nonEmpty, among}
 use Rattle.grammar.specs.Limits.{ATTRIBUTES}
 use Rattle.grammar.specs.Glue.{isGlue, Glue}
 use Rattle.grammar.specs.Name.{letter, nameStart, nameByte}
@@ -101,7 +101,7 @@ module _ (may : Bool) where
   attrP st g = tokenP (live (st .seen)) (new (st .seen)) (equalsP st g) []
 
   unfoldable pub turnP : State → Reader T
-  turnP st = glueP (λ g. ifP (some g && leb (length (st .seen)) (ATTRIBUTES - 1)) (choiceP nameStart (attrP st g) (endP st g)) (endP st g))
+  turnP st = glueP (λ g. ifP (nonEmpty g && leb (length (st .seen)) (ATTRIBUTES - 1)) (choiceP nameStart (attrP st g) (endP st g)) (endP st g))
 
   unfoldable pub headP : Reader Head
   headP = loopP turnP (record { seen = []; build = λ l. l })
@@ -120,7 +120,7 @@ module _ (may : Bool) where
   AttrL st g = TokenFrom (live (st .seen)) (new (st .seen)) (EqualsL st g) []
 
   abbrev ChainL : State → Lang T
-  ChainL st = GlueThen (λ g. If (some g && leb (length (st .seen)) (ATTRIBUTES - 1)) (Alt (AttrL st g) (EndL st g)) (EndL st g))
+  ChainL st = GlueThen (λ g. If (nonEmpty g && leb (length (st .seen)) (ATTRIBUTES - 1)) (Alt (AttrL st g) (EndL st g)) (EndL st g))
 
   end-starts : (t : ℕ → Bool) → t 62 ≡ false → t 47 ≡ false → (st : State) (g w : Bytes) (v : T) → EndL st g w v → Starts t false w
   end-starts t h k st g w v (yes-if y (left (lit e q))) = starts 62 _ e h
@@ -130,7 +130,7 @@ module _ (may : Bool) where
   attr-starts : (st : State) (g w : Bytes) (v : T) → AttrL st g w v → Starts nameStart true w
   attr-starts st g w v (token n k e h o l) = subst (λ (y : Bytes). Starts nameStart true y) (sym e) (name-starts n k (name-of (st .seen) n h o .0))
 
-  chain-starts : (st : State) (g w : Bytes) (v : T) → If (some g && leb (length (st .seen)) (ATTRIBUTES - 1)) (Alt (AttrL st g) (EndL st g)) (EndL st g) w v → Starts isGlue false w
+  chain-starts : (st : State) (g w : Bytes) (v : T) → If (nonEmpty g && leb (length (st .seen)) (ATTRIBUTES - 1)) (Alt (AttrL st g) (EndL st g)) (EndL st g) w v → Starts isGlue false w
   unfolding isGlue
   chain-starts st g w v (yes-if z (left l)) = go (attr-starts st g w v l)
     where
@@ -159,12 +159,12 @@ module _ (may : Bool) where
 
   chain-exact : (st : State) → Exact (ChainL st) (turnP st)
   unfolding turnP attrP nameStart letter within digit
-  chain-exact st = glue-exact (λ g w v l. chain-starts st g w v l) (λ g h. if-exact (some g && leb (length (st .seen)) (ATTRIBUTES - 1))
+  chain-exact st = glue-exact (λ g w v l. chain-starts st g w v l) (λ g h. if-exact (nonEmpty g && leb (length (st .seen)) (ATTRIBUTES - 1))
       (λ z. choice-exact (attr-starts st g) (end-starts nameStart refl refl st g) (name-exact (st .seen) (few g z) (λ n w v l. equals-starts st g n w v l) (λ n h o. equals-exact st g n)) (end-exact st g))
       (λ z. end-exact st g))
     where
-      few : (g : Bytes) → some g && leb (length (st .seen)) (ATTRIBUTES - 1) ≡ true → length (st .seen) ≤ 51
-      few g z = let k = leb-true (length (st .seen)) (ATTRIBUTES - 1) (and-right (some g) _ z) in omega arith
+      few : (g : Bytes) → nonEmpty g && leb (length (st .seen)) (ATTRIBUTES - 1) ≡ true → length (st .seen) ≤ 51
+      few g z = let k = leb-true (length (st .seen)) (ATTRIBUTES - 1) (and-right (nonEmpty g) _ z) in omega arith
 
   -- a turn, as declared: the end of the tag, or an attribute
   data TurnL (st : State) (w : Bytes) (t : T) : Type 0 where
@@ -185,7 +185,7 @@ module _ (may : Bool) where
       to w t (token g k e h o (yes-if z (left (token n k₁ e₁ h₁ o₁ (token g₂ k₂ e₂ h₂ o₂ (on b k₃ e₃ h₃ (token g₃ k₄ e₄ h₄ o₄ (on q k₅ e₅ h₅ (mapped l v s))))))))) =
           let r = name-of (st .seen) n h₁ o₁ in
           attr (record { before = g; name = n; mid = g₂; after = g₃; quote = q; value = l })
-          (record { good = record { before = h; apart = and-left (some g) _ z; name = r .0; mid = h₂; after = h₄; quote = h₅; value = v .good }; room = and-right (some g) _ z; new = r .1 })
+          (record { good = record { before = h; apart = and-left (nonEmpty g) _ z; name = r .0; mid = h₂; after = h₄; quote = h₅; value = v .good }; room = and-right (nonEmpty g) _ z; new = r .1 })
           (e ∙ rw (e₁, e₂, e₃, eqb-true 61 b h₃, e₄, e₅, v .spelt)) s
 
       end-from : (w g : Bytes) (t : T) (z : Bool) → (z ≡ true → may ≡ true) → w ≡ endOf z → t ≡ fin st g z → (y : Bool) → may ≡ y → EndL st g w t
@@ -193,8 +193,8 @@ module _ (may : Bool) where
       end-from w g t false m e q true i = yes-if i (left (lit e q))
       end-from w g t false m e q false i = no-if i (lit e q)
 
-      from-end : (g w : Bytes) (t : T) → EndL st g w t → (z : Bool) → some g && leb (length (st .seen)) (ATTRIBUTES - 1) ≡ z
-          → If (some g && leb (length (st .seen)) (ATTRIBUTES - 1)) (Alt (AttrL st g) (EndL st g)) (EndL st g) w t
+      from-end : (g w : Bytes) (t : T) → EndL st g w t → (z : Bool) → nonEmpty g && leb (length (st .seen)) (ATTRIBUTES - 1) ≡ z
+          → If (nonEmpty g && leb (length (st .seen)) (ATTRIBUTES - 1)) (Alt (AttrL st g) (EndL st g)) (EndL st g) w t
       from-end g w t l true e = yes-if e (right l)
       from-end g w t l false e = no-if e l
 
@@ -214,7 +214,7 @@ module _ (may : Bool) where
   reads st w st′ u (ends g z m h e q) = absurd (let y : _≡_ {A = ℕ} 0 1 = cc in omega arith)
   reads st w st′ u (attr a g e q) = rw (e, length-append) (go (a .before) (g .good .apart))
     where
-      go : (x : Bytes) → some x ≡ true → 0 < length x + length (a .name ++ (a .mid ++ 61 ∷ (a .after ++ a .quote ∷ (spellValue (a .value) ++ a .quote ∷ []))))
+      go : (x : Bytes) → nonEmpty x ≡ true → 0 < length x + length (a .name ++ (a .mid ++ 61 ∷ (a .after ++ a .quote ∷ (spellValue (a .value) ++ a .quote ∷ []))))
       go [] h = clash (sym h)
       go (b ∷ x) h = omega arith
 
@@ -279,7 +279,7 @@ head-first h a t = go (h .attributes) a
     begin [] k false = starts 62 _ refl refl
     begin (b ∷ g) k z = starts b _ refl (glue-not-name b (and-left (isGlue b) (every isGlue g) k))
 
-    some-first : (g r : Bytes) → every isGlue g ≡ true → some g ≡ true → Starts nameByte false (g ++ r)
+    some-first : (g r : Bytes) → every isGlue g ≡ true → nonEmpty g ≡ true → Starts nameByte false (g ++ r)
     some-first [] r k s = clash (sym s)
     some-first (b ∷ g) r k s = starts b _ refl (glue-not-name b (and-left (isGlue b) (every isGlue g) k))
 

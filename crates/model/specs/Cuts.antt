@@ -1,5 +1,5 @@
 -- A run of bytes cuts into messages and glue in one way at most; what stands behind a message does not matter.
-use mathlib.Core.Path.{_≡_, refl, sym, ap, _∙_}
+use mathlib.Core.Path.{_≡_, refl, sym, ap, subst, _∙_}
 use mathlib.Core.List.{List, [], _∷_, _++_, append-assoc}
 use mathlib.Core.Bool.{true, false}
 use Prim.Native.Nat.{ℕ}
@@ -8,10 +8,14 @@ use lib.ListN.{length, length-append}
 use Rattle.exact.specs.Exact.{unique}
 use Rattle.exact.specs.Chain.{clash}
 use Rattle.exact.specs.Byte.{Starts, starts}
-use Rattle.grammar.specs.Bytes.{Bytes, every}
+use Rattle.grammar.specs.Bytes.{Bytes, text, every}
 use Rattle.grammar.specs.Glue.{isGlue, Glue}
 use Rattle.grammar.specs.Tree.{Tree}
-use Rattle.grammar.specs.Message.{Message}
+use Rattle.grammar.specs.Attribute.{spellAttributes}
+use Rattle.grammar.specs.Filler.{spellFiller}
+use Rattle.grammar.specs.Element.{spellElement, spellEnd}
+use Rattle.grammar.specs.Declaration.{spellDeclaration}
+use Rattle.grammar.specs.Message.{Root, Layout, plain, declared, hermes, spellRoot, spellLayout, Message}
 use Rattle.grammar.specs.Answer.{leads, Behind, endsAt, Answers}
 use Rattle.grammar.specs.Cut.{Piece, Cut, cut-end, cut-piece}
 use Rattle.model.specs.Tests.{and-left, and-right}
@@ -21,6 +25,27 @@ use Rattle.model.specs.Answers.{behind-one}
 
 pub message-starts : {w : Bytes} {t : Tree} → Message w t → Starts isGlue false w
 message-starts m = laid-starts (m .laid)
+
+-- w ends with `>`
+abbrev pub Shut : Bytes → Type 0
+Shut w = (v : Bytes) × (w ≡ v ++ text ">")
+
+pub message-ends : {w : Bytes} {t : Tree} → Message w t → Shut w
+message-ends m = subst Shut (sym (m .laid .spelt)) (layout (m .layout))
+  where
+    front : (a : Bytes) {w : Bytes} → Shut w → Shut (a ++ w)
+    front a (v, e) = (a ++ v, ap (λ (y : Bytes). a ++ y) e ∙ sym (append-assoc a v (text ">")))
+
+    end : (n g : Bytes) → Shut (spellEnd n g)
+    end n g = front (text "</") (front n (front g ([], refl)))
+
+    root : (r : Root) → Shut (spellRoot r)
+    root r = front (text "<") (front hermes (front (spellAttributes (r .attributes)) (front (r .trail) (front (text ">")
+        (front (spellFiller (r .before)) (front (spellElement (r .inner)) (front (spellFiller (r .after)) (end hermes (r .shut)))))))))
+
+    layout : (l : Layout) → Shut (spellLayout l)
+    layout (plain r) = root r
+    layout (declared d f r) = front (spellDeclaration d) (front (spellFiller f) (root r))
 
 -- a message behind glue: the glue is all the leading glue
 pub piece-behind : {s g w : Bytes} {t : Tree} (r : Bytes) → Glue g → Message w t → s ≡ g ++ (w ++ r) → Behind s g (w ++ r)

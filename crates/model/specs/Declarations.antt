@@ -11,10 +11,10 @@ use Rattle.exact.specs.Chain.{Ret, ret, retP, ret-exact, Seq, seq, bindP, bind-
 use Rattle.exact.specs.Byte.{On, on, onP, on-exact, Lit, lit, litP, eqb-true, lit-exact, Alt, left, right, Starts, starts, lit-starts, on-starts, choiceP, choice-exact, seq-starts, is-byte}
 use Rattle.exact.specs.Token.{token}
 use Rattle.exact.specs.Limit.{split}
-use Rattle.grammar.specs.Bytes.{Bytes, text, every, some, same, fits}
+use Rattle.grammar.specs.Bytes.{Bytes, text, every, nonEmpty, same, fits}
 use Rattle.grammar.specs.Glue.{isGlue}
 use Rattle.grammar.specs.Value.{isQuote}
-use Rattle.grammar.specs.Declaration.{Setting, Optional, absent, present, Declaration, spellSetting, spellOptional, spellDeclaration, isVersion, isEncoding, isStandalone, GoodSetting, GoodOptional, good-absent, good-present, GoodDeclaration}
+use Rattle.grammar.specs.Declaration.{Setting, Optional, absent, present, Declaration, spellSetting, spellOptional, spellDeclaration, versionBytes, isVersion, encodingBytes, isEncoding, isStandalone, GoodSetting, GoodOptional, good-absent, good-present, GoodDeclaration}
 use Rattle.model.specs.Tests.{and-left, and-right, and-both, or-cases, same-true, uncons}
 use Rattle.model.specs.Glue.{GlueThen, glueP, glue-exact, quote-not-glue}
 
@@ -49,16 +49,16 @@ fits-exact (one {t} {ts} b₀ h₀ s) = exact-like to from (on-exact b₀ h₀ (
     from w (b ∷ v) (word e h) = on b v e (and-left (t b) (fits ts v) h) (mapped v (word refl (and-right (t b) (fits ts v) h)) refl)
 
 unfoldable pub versionP : Reader Bytes
-versionP = fitsP isVersion
+versionP = fitsP versionBytes
 
-version-exact : Exact (WordL (fits isVersion)) versionP
+version-exact : Exact (WordL isVersion) versionP
 unfolding versionP
 version-exact = fits-exact (one 49 refl (one 46 refl (one 48 refl none)))
 
 unfoldable pub encodingP : Reader Bytes
-encodingP = fitsP isEncoding
+encodingP = fitsP encodingBytes
 
-encoding-exact : Exact (WordL (fits isEncoding)) encodingP
+encoding-exact : Exact (WordL isEncoding) encodingP
 unfolding encodingP
 encoding-exact = fits-exact (one 85 refl (one 84 refl (one 70 refl (one 45 refl (one 56 refl none)))))
 
@@ -112,7 +112,7 @@ setting-exact name W wordP x g = exact-like to from
 setting-starts : {t : ℕ → Bool} {z : Bool} {W : Bytes → Bool} {g : Bytes} (c : ℕ) (cs : Bytes) → t c ≡ z → (w : Bytes) (p : Setting) → SettingL (c ∷ cs) W g w p → Starts t z w
 setting-starts c cs h w p (setting b m a q v e) = starts c _ e h
 
-setting-good : {name : Bytes} {W : Bytes → Bool} {g w : Bytes} {p : Setting} → every isGlue g ≡ true → some g ≡ true → SettingL name W g w p → GoodSetting W p × (g ++ w ≡ p .before ++ spellSetting name p)
+setting-good : {name : Bytes} {W : Bytes → Bool} {g w : Bytes} {p : Setting} → every isGlue g ≡ true → nonEmpty g ≡ true → SettingL name W g w p → GoodSetting W p × (g ++ w ≡ p .before ++ spellSetting name p)
 setting-good h s (setting b m a q v e) = (record { before = rw b h; apart = rw b s; mid = m; after = a; quote = q; word = v }, rw (b, e))
 
 good-setting : {name : Bytes} {W : Bytes → Bool} {p : Setting} → GoodSetting W p → SettingL name W (p .before) (spellSetting name p) p
@@ -154,13 +154,13 @@ standalone-or-end-starts t h k g f w v (right l) = lit-starts 63 _ k w v l
 
 -- behind the encoding
 unfoldable pub behindEncodingP : (Optional → Bytes → Declaration) → Reader Declaration
-behindEncodingP f = glueP (λ g. ifP (some g) (standaloneOrEndP g f) (litP (text "?>") (f absent g)))
+behindEncodingP f = glueP (λ g. ifP (nonEmpty g) (standaloneOrEndP g f) (litP (text "?>") (f absent g)))
 
 data BehindEncodingL (f : Optional → Bytes → Declaration) (w : Bytes) (v : Declaration) : Type 0 where
   behind-encoding : (s : Optional) (g : Bytes) → GoodOptional isStandalone s → every isGlue g ≡ true → w ≡ spellOptional (text "standalone") s ++ (g ++ (text "?>")) → v ≡ f s g → BehindEncodingL f w v
 
 -- glue g and what stands behind it
-of-standalone-or-end : (f : Optional → Bytes → Declaration) (g w u : Bytes) (v : Declaration) → every isGlue g ≡ true → some g ≡ true → u ≡ g ++ w → StandaloneOrEndL g f w v → BehindEncodingL f u v
+of-standalone-or-end : (f : Optional → Bytes → Declaration) (g w u : Bytes) (v : Declaration) → every isGlue g ≡ true → nonEmpty g ≡ true → u ≡ g ++ w → StandaloneOrEndL g f w v → BehindEncodingL f u v
 of-standalone-or-end f g w u v h z e (left (seq w₁ p w₂ i l (behind-standalone g′ h′ e′ s))) =
     let y = setting-good h z l in
     behind-encoding (present p) g′ (good-present (y .0)) h′ (e ∙ ap (λ (x : Bytes). g ++ x) i ∙ sym (append-assoc g w₁ w₂) ∙ rw (y .1, e′)) s
@@ -171,10 +171,10 @@ to-standalone-or-end f p g v x h q = left (seq (spellSetting (text "standalone")
 
 behind-encoding-exact : (f : Optional → Bytes → Declaration) → Exact (BehindEncodingL f) (behindEncodingP f)
 unfolding behindEncodingP isGlue
-behind-encoding-exact f = exact-like to from (glue-exact st (λ g h. if-exact (some g) (λ z. standalone-or-end-exact g f) (λ z. lit-exact _ _)))
+behind-encoding-exact f = exact-like to from (glue-exact st (λ g h. if-exact (nonEmpty g) (λ z. standalone-or-end-exact g f) (λ z. lit-exact _ _)))
   where
     L : Bytes → Lang Declaration
-    L g = If (some g) (StandaloneOrEndL g f) (Lit (text "?>") (f absent g))
+    L g = If (nonEmpty g) (StandaloneOrEndL g f) (Lit (text "?>") (f absent g))
 
     st : (g k : Bytes) (v : Declaration) → L g k v → Starts isGlue false k
     st g k v (yes-if z l) = standalone-or-end-starts isGlue refl refl g f k v l
@@ -184,7 +184,7 @@ behind-encoding-exact f = exact-like to from (glue-exact st (λ g h. if-exact (s
     to w v (token g k e h o (yes-if z l)) = of-standalone-or-end f g k w v h z e l
     to w v (token g k e h o (no-if z (lit i s))) = behind-encoding absent g good-absent h (e ∙ rw i) s
 
-    end : (g : Bytes) (v : Declaration) → v ≡ f absent g → (z : Bool) → some g ≡ z → L g (text "?>") v
+    end : (g : Bytes) (v : Declaration) → v ≡ f absent g → (z : Bool) → nonEmpty g ≡ z → L g (text "?>") v
     end g v q true z = yes-if z (right (lit refl q))
     end g v q false z = no-if z (lit refl q)
 
@@ -197,19 +197,19 @@ behind-encoding-exact f = exact-like to from (glue-exact st (λ g h. if-exact (s
 
 -- behind the version
 unfoldable pub behindVersionP : (Optional → Optional → Bytes → Declaration) → Reader Declaration
-behindVersionP f = glueP (λ g. ifP (some g) (choiceP (eqb 101) (bindP (settingP (text "encoding") encodingP g) (λ p. behindEncodingP (f (present p)))) (standaloneOrEndP g (f absent))) (litP (text "?>") (f absent absent g)))
+behindVersionP f = glueP (λ g. ifP (nonEmpty g) (choiceP (eqb 101) (bindP (settingP (text "encoding") encodingP g) (λ p. behindEncodingP (f (present p)))) (standaloneOrEndP g (f absent))) (litP (text "?>") (f absent absent g)))
 
 data BehindVersionL (f : Optional → Optional → Bytes → Declaration) (w : Bytes) (v : Declaration) : Type 0 where
-  behind-version : (c s : Optional) (g : Bytes) → GoodOptional (fits isEncoding) c → GoodOptional isStandalone s → every isGlue g ≡ true → w ≡ spellOptional (text "encoding") c ++ (spellOptional (text "standalone") s ++ (g ++ (text "?>"))) → v ≡ f c s g → BehindVersionL f w v
+  behind-version : (c s : Optional) (g : Bytes) → GoodOptional isEncoding c → GoodOptional isStandalone s → every isGlue g ≡ true → w ≡ spellOptional (text "encoding") c ++ (spellOptional (text "standalone") s ++ (g ++ (text "?>"))) → v ≡ f c s g → BehindVersionL f w v
 
 behind-version-exact : (f : Optional → Optional → Bytes → Declaration) → Exact (BehindVersionL f) (behindVersionP f)
 unfolding behindVersionP isGlue
-behind-version-exact f = exact-like to from (glue-exact st (λ g h. if-exact (some g)
-    (λ z. choice-exact (seq-starts (setting-starts 101 _ refl)) (standalone-or-end-starts (eqb 101) refl refl g (f absent)) (bind-exact (setting-exact (text "encoding") (fits isEncoding) encodingP encoding-exact g) (λ w p l. behind-encoding-exact (f (present p)))) (standalone-or-end-exact g (f absent)))
+behind-version-exact f = exact-like to from (glue-exact st (λ g h. if-exact (nonEmpty g)
+    (λ z. choice-exact (seq-starts (setting-starts 101 _ refl)) (standalone-or-end-starts (eqb 101) refl refl g (f absent)) (bind-exact (setting-exact (text "encoding") isEncoding encodingP encoding-exact g) (λ w p l. behind-encoding-exact (f (present p)))) (standalone-or-end-exact g (f absent)))
     (λ z. lit-exact _ _)))
   where
     L : Bytes → Lang Declaration
-    L g = If (some g) (Alt (Seq (SettingL (text "encoding") (fits isEncoding) g) (λ p. BehindEncodingL (f (present p)))) (StandaloneOrEndL g (f absent))) (Lit (text "?>") (f absent absent g))
+    L g = If (nonEmpty g) (Alt (Seq (SettingL (text "encoding") isEncoding g) (λ p. BehindEncodingL (f (present p)))) (StandaloneOrEndL g (f absent))) (Lit (text "?>") (f absent absent g))
 
     st : (g k : Bytes) (v : Declaration) → L g k v → Starts isGlue false k
     st g k v (yes-if z (left l)) = seq-starts (setting-starts 101 _ refl) k v l
@@ -226,11 +226,11 @@ behind-version-exact f = exact-like to from (glue-exact st (λ g h. if-exact (so
     to w v (token g k e h o (yes-if z (right l))) = of-2 w v (of-standalone-or-end (f absent) g k w v h z e l)
     to w v (token g k e h o (no-if z (lit i s))) = behind-version absent absent g good-absent good-absent h (e ∙ rw i) s
 
-    end : (g : Bytes) (v : Declaration) → v ≡ f absent absent g → (z : Bool) → some g ≡ z → L g (text "?>") v
+    end : (g : Bytes) (v : Declaration) → v ≡ f absent absent g → (z : Bool) → nonEmpty g ≡ z → L g (text "?>") v
     end g v q true z = yes-if z (right (right (lit refl q)))
     end g v q false z = no-if z (lit refl q)
 
-    go : (c s : Optional) → GoodOptional (fits isEncoding) c → GoodOptional isStandalone s → (g w : Bytes) (v : Declaration) → every isGlue g ≡ true → w ≡ spellOptional (text "encoding") c ++ (spellOptional (text "standalone") s ++ (g ++ (text "?>"))) → v ≡ f c s g → GlueThen L w v
+    go : (c s : Optional) → GoodOptional isEncoding c → GoodOptional isStandalone s → (g w : Bytes) (v : Declaration) → every isGlue g ≡ true → w ≡ spellOptional (text "encoding") c ++ (spellOptional (text "standalone") s ++ (g ++ (text "?>"))) → v ≡ f c s g → GlueThen L w v
     go absent absent a x g w v h e q = token g (text "?>") e h refl (end g v q _ refl)
     go absent (present p) a (good-present x) g w v h e q = token (p .before) _ (e ∙ append-assoc (p .before) (spellSetting (text "standalone") p) (g ++ (text "?>"))) (x .before) refl (yes-if (x .apart) (right (to-standalone-or-end (f absent) p g v x h q)))
     go (present c) s (good-present a) x g w v h e q =
@@ -254,10 +254,10 @@ pub record IsDeclaration (w : Bytes) (d : Declaration) : Type 0 where
 pub declaration-exact : Exact IsDeclaration declarationP
 unfolding declarationP isGlue
 declaration-exact = exact-like to from (bind-exact (lit-exact {A = ℕ} (text "xml") 0) (λ w u l. on-exact 32 refl (λ b h. glue-exact (λ g k v. seq-starts (setting-starts 118 _ refl) k v)
-    (λ g i. bind-exact (setting-exact (text "version") (fits isVersion) versionP version-exact (b ∷ g)) (λ w p l. behind-version-exact (mkDeclaration p))))))
+    (λ g i. bind-exact (setting-exact (text "version") isVersion versionP version-exact (b ∷ g)) (λ w p l. behind-version-exact (mkDeclaration p))))))
   where
     L : Lang Declaration
-    L = Seq (Lit {A = ℕ} (text "xml") 0) (λ u. On isGlue (λ b. GlueThen (λ g. Seq (SettingL (text "version") (fits isVersion) (b ∷ g)) (λ p. BehindVersionL (mkDeclaration p)))))
+    L = Seq (Lit {A = ℕ} (text "xml") 0) (λ u. On isGlue (λ b. GlueThen (λ g. Seq (SettingL (text "version") isVersion (b ∷ g)) (λ p. BehindVersionL (mkDeclaration p)))))
 
     to : (w : Bytes) (v : Declaration) → L w v → IsDeclaration w v
     to w v (seq w₀ u w₁ e₀ (lit i₀ q₀) (on b w₂ e₁ h₁ (token g k e₂ h₂ o₂ (seq w₃ p w₄ e₃ l (behind-version c s t x y z e₄ q))))) =
@@ -268,12 +268,12 @@ declaration-exact = exact-like to from (bind-exact (lit-exact {A = ℕ} (text "x
           spelt = ap (λ (y : Bytes). code "<" ∷ code "?" ∷ y) (e₀ ∙ rw (i₀, e₁, e₂, e₃, e₄) (ap (λ (y : Bytes). (text "xml") ++ y) (sym (append-assoc (b ∷ g) w₃ rest) ∙ ap (λ (x : Bytes). x ++ rest) (r .1) ∙ append-assoc (p .before) (spellSetting (text "version") p) rest)));
         })
 
-    split : (x r : Bytes) (v : Declaration) → every isGlue x ≡ true → some x ≡ true → ((g : Bytes) (b : ℕ) → x ≡ b ∷ g → Seq (SettingL (text "version") (fits isVersion) (b ∷ g)) (λ p. BehindVersionL (mkDeclaration p)) r v)
-        → On isGlue (λ b. GlueThen (λ g. Seq (SettingL (text "version") (fits isVersion) (b ∷ g)) (λ p. BehindVersionL (mkDeclaration p)))) (x ++ r) v
+    split : (x r : Bytes) (v : Declaration) → every isGlue x ≡ true → nonEmpty x ≡ true → ((g : Bytes) (b : ℕ) → x ≡ b ∷ g → Seq (SettingL (text "version") isVersion (b ∷ g)) (λ p. BehindVersionL (mkDeclaration p)) r v)
+        → On isGlue (λ b. GlueThen (λ g. Seq (SettingL (text "version") isVersion (b ∷ g)) (λ p. BehindVersionL (mkDeclaration p)))) (x ++ r) v
     split [] r v h s f = clash (sym s)
     split (b ∷ g) r v h s f = on b (g ++ r) refl (and-left (isGlue b) (every isGlue g) h) (token g r refl (and-right (isGlue b) (every isGlue g) h) refl (f g b refl))
 
     from : (w : Bytes) (v : Declaration) → IsDeclaration w v → L w v
     from w v l = seq (text "xml") 0 _ (uncons (uncons (l .spelt))) (lit refl refl) (split (v .version .before) _ v (l .good .version .before) (l .good .version .apart)
-        (λ g b e. seq (spellSetting (text "version") (v .version)) (v .version) _ refl (subst (λ (y : Bytes). SettingL (text "version") (fits isVersion) y (spellSetting (text "version") (v .version)) (v .version)) e (good-setting (l .good .version)))
+        (λ g b e. seq (spellSetting (text "version") (v .version)) (v .version) _ refl (subst (λ (y : Bytes). SettingL (text "version") isVersion y (spellSetting (text "version") (v .version)) (v .version)) e (good-setting (l .good .version)))
         (behind-version (v .encoding) (v .standalone) (v .trail) (l .good .encoding) (l .good .standalone) (l .good .trail) refl refl)))

@@ -16,7 +16,7 @@ use Rattle.grammar.specs.Bytes.{Bytes, text, within}
 use Rattle.grammar.specs.Glue.{isGlue, Glue}
 use Rattle.grammar.specs.Name.{letter, nameStart, Name}
 use Rattle.grammar.specs.Reference.{named}
-use Rattle.grammar.specs.Filler.{below, Filler, spellFiller, GoodFiller}
+use Rattle.grammar.specs.Filler.{Filler, spellFiller, GoodFiller}
 use Rattle.grammar.specs.Element.{Tag, Element, empty, full, Content, bare, child, spellEnd, spellElement, spellContent, GoodTag, GoodElement, good-empty, good-full, GoodContent, good-bare, good-child}
 use Rattle.model.specs.Tests.{uncons}
 use Rattle.model.specs.Glue.{GlueThen, glueP, glue-exact}
@@ -84,7 +84,7 @@ unfoldable pub nodeTagP : Reader Element → Bytes → Acc → Filler → Reader
 nodeTagP elem n k f = choiceP (eqb (code "/")) (closeP n (shutTurn k f)) (mapP (childTurn k f) elem)
 
 unfoldable pub contentTurnP : (Acc → Filler → Reader ContentTurn) → Acc → Reader ContentTurn
-contentTurnP tag k = fillP below (tag k)
+contentTurnP tag k = fillP (tag k)
 
 -- d more elements may be open inside
 unfoldable pub contentP : ℕ → Bytes → Reader Tail
@@ -201,12 +201,12 @@ node-tag-exact d x n k f =
 
 -- the turns of a content at depth d in an element n
 abbrev TurnL : ℕ → Bytes → Acc → Lang ContentTurn
-TurnL d n k = FillThen below (λ f. TagL n k f d)
+TurnL d n k = FillThen (λ f. TagL n k f d)
 
 reads : (d : ℕ) (n : Bytes) (k : Acc) (w : Bytes) (k′ : Acc) → Unit {0} → TurnL d n k w (again k′) → 0 < length w
 reads d n k w k′ u (filled f r e g l) = rw (e, length-append) (omega arith)
 
-ending : (d : ℕ) (n : Bytes) (k : Acc) (f : Filler) (g : Bytes) → GoodFiller below f → Glue g → Loop (TurnL d n) k (spellFiller f ++ spellEnd n g) (record { content = k (bare f); glue = g })
+ending : (d : ℕ) (n : Bytes) (k : Acc) (f : Filler) (g : Bytes) → GoodFiller f → Glue g → Loop (TurnL d n) k (spellFiller f ++ spellEnd n g) (record { content = k (bare f); glue = g })
 ending d n k f g y h = last (filled f (closing n g) refl y (shutting (close g h refl refl)))
 
 record ContentFrom (d : ℕ) (n : Bytes) (k : Acc) (w : Bytes) (t : Tail) : Type 0 where
@@ -219,7 +219,7 @@ tag-stop n k f (shutting (close g h e q)) = (g, h, e, cc)
 tag-stop n k f (opening a l q) = absurd (let z : _≡_ {A = ℕ} 0 1 = cc in omega arith)
 
 tag-again : (n : Bytes) (k : Acc) (f : Filler) {d : ℕ} {w : Bytes} {k′ : Acc} → TagL n k f d w (again k′)
-    → (e : Element) × (code "<" ∷ w ≡ spellElement e) × (k′ ≡ (λ c. k (child f e c))) × ((c : Content) → GoodFiller below f → GoodContent d c → GoodContent d (child f e c))
+    → (e : Element) × (code "<" ∷ w ≡ spellElement e) × (k′ ≡ (λ c. k (child f e c))) × ((c : Content) → GoodFiller f → GoodContent d c → GoodContent d (child f e c))
 tag-again n k f (shutting (close g h e q)) = absurd (let z : _≡_ {A = ℕ} 0 1 = cc in omega arith)
 tag-again n k f (opening a l q) = (a, l .spelt, (cc), λ c y g. good-child y (l .good) g)
 
@@ -230,7 +230,7 @@ loop-good d n k w t (last (filled f r e y l)) = step (tag-stop n k f l)
     step (g, x, i, q) = rw q (record { inside = bare f; built = refl; says = record { good = good-bare y; glue = x; spelt = e ∙ rw i } })
 loop-good d n k w t (next w₁ k′ w₂ e (filled f r i y l) m) = step (tag-again n k f l) (loop-good d n k′ w₂ t m)
   where
-    step : (x : Element) × (code "<" ∷ r ≡ spellElement x) × (k′ ≡ (λ c. k (child f x c))) × ((c : Content) → GoodFiller below f → GoodContent d c → GoodContent d (child f x c))
+    step : (x : Element) × (code "<" ∷ r ≡ spellElement x) × (k′ ≡ (λ c. k (child f x c))) × ((c : Content) → GoodFiller f → GoodContent d c → GoodContent d (child f x c))
         → ContentFrom d n k′ w₂ t → ContentFrom d n k w t
     step (x, j, g, h) s = record {
       inside = child f x (s .inside);
@@ -252,7 +252,7 @@ good-loop n k g h (good-child {d} {f} {e} {c} y x r) = go (element-lt e) (good-l
 module _ (d : ℕ) (n : Bytes) (tag : Acc → Filler → Reader ContentTurn) (ex : (k : Acc) (f : Filler) → Exact (TagL n k f d) (tag k f)) where
   turn-exact : (k : Acc) → Exact (TurnL d n k) (contentTurnP tag k)
   unfolding contentTurnP
-  turn-exact k = fill-exact below (λ f y. ex k f)
+  turn-exact k = fill-exact (λ f y. ex k f)
 
   loop-content : Exact (ContentL d n) (loopP (contentTurnP tag) (λ c. c))
   loop-content = exact-like to from (loop-exact (λ k. Unit {0}) (λ k u. turn-exact k) (λ k w k′ u l. tt) (reads d n) some-end (λ c. c) tt)

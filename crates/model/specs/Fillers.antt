@@ -8,23 +8,23 @@ use Rattle.exact.specs.Byte.{On, on, onP, on-exact, eqb-true, on-starts, is-byt
 use Rattle.exact.specs.Token.{token}
 use Rattle.grammar.specs.Bytes.{Bytes}
 use Rattle.grammar.specs.Glue.{isGlue}
-use Rattle.grammar.specs.Filler.{Standing, Filler, spellFiller, GoodFiller}
+use Rattle.grammar.specs.Filler.{Filler, spellFiller, GoodFiller}
 use Rattle.model.specs.Glue.{GlueThen, glueP, glue-exact}
 
 -- filler, `<`, and what follows
-pub data FillThen {A : Type 0} (s : Standing) (K : Filler → Lang A) (w : Bytes) (v : A) : Type 0 where
-  filled : (f : Filler) (k : Bytes) → w ≡ spellFiller f ++ code "<" ∷ k → GoodFiller s f → K f k v → FillThen s K w v
+pub data FillThen {A : Type 0} (K : Filler → Lang A) (w : Bytes) (v : A) : Type 0 where
+  filled : (f : Filler) (k : Bytes) → w ≡ spellFiller f ++ code "<" ∷ k → GoodFiller f → K f k v → FillThen K w v
 
-unfoldable pub fillP : {A : Type 0} → Standing → (Filler → Reader A) → Reader A
-fillP s q = glueP (λ g. onP (eqb (code "<")) (λ b. q (record { glue = g })))
+unfoldable pub fillP : {A : Type 0} → (Filler → Reader A) → Reader A
+fillP q = glueP (λ g. onP (eqb (code "<")) (λ b. q (record { glue = g })))
 
-pub fill-exact : {A : Type 0} (s : Standing) {K : Filler → Lang A} {q : Filler → Reader A} → ((f : Filler) → GoodFiller s f → Exact (K f) (q f)) → Exact (FillThen s K) (fillP s q)
+pub fill-exact : {A : Type 0} {K : Filler → Lang A} {q : Filler → Reader A} → ((f : Filler) → GoodFiller f → Exact (K f) (q f)) → Exact (FillThen K) (fillP q)
 unfolding fillP isGlue
-fill-exact {A} s {K} {q} x =
+fill-exact {A} {K} {q} x =
     exact-like to from (glue-exact (λ g k v. on-starts (is-byte isGlue (code "<") refl) k v) (λ g h. on-exact (code "<") refl (λ b j. x (record { glue = g }) (record { glue = h }))))
   where
-    to : (w : Bytes) (v : A) → GlueThen (λ g. On (eqb (code "<")) (λ b. K (record { glue = g }))) w v → FillThen s K w v
+    to : (w : Bytes) (v : A) → GlueThen (λ g. On (eqb (code "<")) (λ b. K (record { glue = g }))) w v → FillThen K w v
     to w v (token g k e h o (on b k′ i j l)) = filled (record { glue = g }) k′ (e ∙ rw (i, eqb-true (code "<") b j)) (record { glue = h }) l
 
-    from : (w : Bytes) (v : A) → FillThen s K w v → GlueThen (λ g. On (eqb (code "<")) (λ b. K (record { glue = g }))) w v
+    from : (w : Bytes) (v : A) → FillThen K w v → GlueThen (λ g. On (eqb (code "<")) (λ b. K (record { glue = g }))) w v
     from w v (filled f k e g l) = token (f .glue) _ e (g .glue) refl (on (code "<") k refl refl l)

@@ -14,5 +14,6 @@ pub mod Messages
 pub mod Answers
 pub mod Cuts
 pub mod Completions
+pub mod MadeOfBytes
 pub mod Theorems
 pub mod Bench

@@ -12,7 +12,7 @@ use Rattle.grammar.specs.Bytes.{Bytes, text}
 use Rattle.grammar.specs.Limits.{DEPTH}
 use Rattle.grammar.specs.Glue.{isGlue}
 use Rattle.grammar.specs.Attribute.{spellAttributes}
-use Rattle.grammar.specs.Filler.{prolog, root, Filler, spellFiller}
+use Rattle.grammar.specs.Filler.{Filler, spellFiller}
 use Rattle.grammar.specs.Tree.{Tree}
 use Rattle.grammar.specs.Element.{Element, spellEnd}
 use Rattle.grammar.specs.Declaration.{spellDeclaration}
@@ -29,7 +29,7 @@ mkRoot h f e f′ g = record { attributes = h .attributes; trail = h .trail; bef
 
 unfoldable pub rootP : Reader Root
 rootP =
-    bindP (litP {A = ℕ} hermes 0) (λ u. bindP (headP false) (λ h. fillP root (λ f. bindP (elemP (contentP (DEPTH - 2))) (λ e. fillP root (λ f′. closeP hermes (mkRoot h f e f′))))))
+    bindP (litP {A = ℕ} hermes 0) (λ u. bindP (headP false) (λ h. fillP (λ f. bindP (elemP (contentP (DEPTH - 2))) (λ e. fillP (λ f′. closeP hermes (mkRoot h f e f′))))))
 
 pub record IsRoot (w : Bytes) (r : Root) : Type 0 where
   pub good : GoodRoot r
@@ -37,14 +37,14 @@ pub record IsRoot (w : Bytes) (r : Root) : Type 0 where
 
 abbrev RootL : Lang Root
 RootL =
-    Seq (Lit {A = ℕ} hermes 0) (λ u. Seq (IsHead false) (λ h. FillThen root (λ f. Seq (IsElement (DEPTH - 2)) (λ e. FillThen root (λ f′. CloseL hermes (mkRoot h f e f′))))))
+    Seq (Lit {A = ℕ} hermes 0) (λ u. Seq (IsHead false) (λ h. FillThen (λ f. Seq (IsElement (DEPTH - 2)) (λ e. FillThen (λ f′. CloseL hermes (mkRoot h f e f′))))))
 
 pub root-exact : Exact IsRoot rootP
 unfolding rootP
 root-exact =
     exact-like to from
     (bind-exact (lit-exact {A = ℕ} hermes 0) (λ w u l. bind-exact (head-exact false) (λ w h l.
-    fill-exact root (λ f y. bind-exact (read-exact (DEPTH - 2)) (λ w e l. fill-exact root (λ f′ z. close-exact hermes (mkRoot h f e f′)))))))
+    fill-exact (λ f y. bind-exact (read-exact (DEPTH - 2)) (λ w e l. fill-exact (λ f′ z. close-exact hermes (mkRoot h f e f′)))))))
   where
     -- the root has no empty tag
     started : (w : Bytes) (h : Head) → IsHead false w h → h .empty ≡ false
@@ -76,17 +76,17 @@ root-exact =
 -- a message, from its first `<`
 unfoldable pub layoutP : Reader Layout
 layoutP =
-    onP (eqb (code "<")) (λ b. choiceP (eqb (code "?")) (onP (eqb (code "?")) (λ c. bindP declarationP (λ d. fillP prolog (λ f. mapP (declared d f) rootP)))) (mapP plain rootP))
+    onP (eqb (code "<")) (λ b. choiceP (eqb (code "?")) (onP (eqb (code "?")) (λ c. bindP declarationP (λ d. fillP (λ f. mapP (declared d f) rootP)))) (mapP plain rootP))
 
 abbrev LayoutL : Lang Layout
 LayoutL =
-    On (eqb (code "<")) (λ b. Alt (On (eqb (code "?")) (λ c. Seq IsDeclaration (λ d. FillThen prolog (λ f. Map (declared d f) IsRoot)))) (Map plain IsRoot))
+    On (eqb (code "<")) (λ b. Alt (On (eqb (code "?")) (λ c. Seq IsDeclaration (λ d. FillThen (λ f. Map (declared d f) IsRoot)))) (Map plain IsRoot))
 
 pub layout-exact : Exact Laid layoutP
 unfolding layoutP
 layout-exact =
     exact-like to from (on-exact (code "<") refl (λ b h. choice-exact (on-starts (λ c k. k)) (map-starts root-starts)
-    (on-exact (code "?") refl (λ c k. bind-exact declaration-exact (λ w d l. fill-exact prolog (λ f y. map-exact (declared d f) root-exact))))
+    (on-exact (code "?") refl (λ c k. bind-exact declaration-exact (λ w d l. fill-exact (λ f y. map-exact (declared d f) root-exact))))
     (map-exact plain root-exact)))
   where
     root-starts : (w : Bytes) (r : Root) → IsRoot w r → Starts (eqb (code "?")) false w

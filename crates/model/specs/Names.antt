@@ -12,7 +12,7 @@ use Rattle.exact.specs.Exact.{Lang, Reader, Exact}
 use Rattle.exact.specs.Chain.{clash}
 use Rattle.exact.specs.Byte.{eqb-true, Starts, starts}
 use Rattle.exact.specs.Token.{TokenFrom, tokenP, token-exact}
-use Rattle.grammar.specs.Bytes.{Bytes, text, within, digit, every, some, among}
+use Rattle.grammar.specs.Bytes.{Bytes, text, within, digit, every, nonEmpty, among}
 use Rattle.grammar.specs.Limits.{NAME}
 use Rattle.grammar.specs.Glue.{isGlue}
 use Rattle.grammar.specs.Name.{letter, nameStart, nameByte, shaped, Name}
@@ -88,7 +88,7 @@ unfoldable pub live : List Bytes → Bytes → Bool
 live earlier n = shaped n && (leb (length n) NAME && (leb (length n) (NAME - 1) || not (among earlier n)))
 
 unfoldable pub new : List Bytes → Bytes → Bool
-new earlier n = some n && not (among earlier n)
+new earlier n = nonEmpty n && not (among earlier n)
 
 module _ (earlier : List Bytes) where
   pub record Live (n : Bytes) : Type 0 where
@@ -132,10 +132,10 @@ module _ (earlier : List Bytes) where
         let f = some-fresh letters refl n earlier (omega arith) in (
           f .0 ∷ [],
           of-live (n ++ f .0 ∷ []) (record { shape = shape-add n (f .0) (all-has nameStart letters letters-start (f .0) (f .1)) h; fits = rw length-append (omega arith); room = inr (f .2) }),
-          and-both (some (n ++ f .0 ∷ [])) (not (among earlier (n ++ f .0 ∷ []))) (some-snoc n (f .0)) (rw (f .2)),
+          and-both (nonEmpty (n ++ f .0 ∷ [])) (not (among earlier (n ++ f .0 ∷ []))) (some-snoc n (f .0)) (rw (f .2)),
         )
       where
-        some-snoc : (n : Bytes) (c : ℕ) → some (n ++ c ∷ []) ≡ true
+        some-snoc : (n : Bytes) (c : ℕ) → nonEmpty (n ++ c ∷ []) ≡ true
         some-snoc [] c = refl
         some-snoc (x ∷ n) c = refl
 
@@ -164,11 +164,11 @@ module _ (earlier : List Bytes) where
   -- the token is a name that is none of the earlier ones
   pub name-of : (n : Bytes) → live earlier n ≡ true → new earlier n ≡ true → Name n × (among earlier n ≡ false)
   unfolding new
-  name-of n h o = let r = live-view n h in (record { shape = r .shape; one = and-left (some n) _ o; short = r .fits }, not-true _ (and-right (some n) _ o))
+  name-of n h o = let r = live-view n h in (record { shape = r .shape; one = and-left (nonEmpty n) _ o; short = r .fits }, not-true _ (and-right (nonEmpty n) _ o))
 
   pub of-name : (n : Bytes) → Name n → among earlier n ≡ false → (live earlier n ≡ true) × (new earlier n ≡ true)
   unfolding new
-  of-name n r h = (of-live n (record { shape = r .shape; fits = r .short; room = inr h }), and-both (some n) (not (among earlier n)) (r .one) (rw h))
+  of-name n r h = (of-live n (record { shape = r .shape; fits = r .short; room = inr h }), and-both (nonEmpty n) (not (among earlier n)) (r .one) (rw h))
 
 -- which beginnings can still become a name that is none of the earlier ones
 pub name-open : (earlier : List Bytes) → length earlier ≤ 51 → (n : Bytes) → (live earlier n ≡ true) ↔ ((m : Bytes) × Name (n ++ m) × (among earlier (n ++ m) ≡ false))

@@ -13,7 +13,7 @@ use Rattle.exact.specs.Exact.{Lang, Reader, Exact, exact-like}
 use Rattle.exact.specs.Chain.{Map, mapped, mapP, map-exact, clash}
 use Rattle.exact.specs.Byte.{On, on, onP, on-exact, Lit, lit, litP, eqb-true, other, lit-exact, Alt, left, right, Starts, starts, lit-starts, on-starts, map-starts, choiceP, choice-exact}
 use Rattle.exact.specs.Token.{TokenFrom, token, tokenP, token-exact}
-use Rattle.grammar.specs.Bytes.{Bytes, text, within, digit, every, some, fits}
+use Rattle.grammar.specs.Bytes.{Bytes, text, within, digit, every, nonEmpty, fits}
 use Rattle.grammar.specs.Character.{isChar}
 use Rattle.grammar.specs.Reference.{Named, amp, lt, gt, quot, apos, Reference, named, decimal, hexadecimal, spellNamed, spellReference, hexDigit, worth, number, Digits, GoodReference, good-named, good-decimal, good-hexadecimal}
 use Rattle.model.specs.Tests.{in-range, and-left, and-right, and-both, or-cases, or-right, every-left, every-append, every-snoc, every-last, uncons}
@@ -183,7 +183,7 @@ module _ (cls : ℕ → Bool) (base max edge top : ℕ) where
           let k = e .2 in
           (e .0, of-begun (n ++ e .0) (record { all = every-append cls n (e .0) (r .all) (e .1); fits = rw length-append (omega (arith, r .fits)); live = now c }), c)
 
-      some-of : (n : Bytes) → isChar (number base 0 n) ≡ true → some n ≡ true
+      some-of : (n : Bytes) → isChar (number base 0 n) ≡ true → nonEmpty n ≡ true
       unfolding isChar within
       some-of [] h = clash (sym h)
       some-of (b ∷ n) h = refl
@@ -429,7 +429,7 @@ pub record IsRef (w : Bytes) (r : Reference) : Type 0 where
 number-starts : (cls : ℕ → Bool) (base max x : ℕ) → cls x ≡ false → (w n : Bytes) → IsNumber cls base max w n → Starts (eqb x) false w
 number-starts cls base max x h w n l = subst (λ (y : Bytes). Starts (eqb x) false y) (sym (l .spelt)) (go n (l .good .digits) (l .good .one))
   where
-    go : (n : Bytes) → every cls n ≡ true → some n ≡ true → Starts (eqb x) false (n ++ 59 ∷ [])
+    go : (n : Bytes) → every cls n ≡ true → nonEmpty n ≡ true → Starts (eqb x) false (n ++ 59 ∷ [])
     go [] d o = clash (sym o)
     go (b ∷ m) d o = starts b (m ++ 59 ∷ []) refl (other cls x h b (and-left (cls b) (every cls m) d))
 

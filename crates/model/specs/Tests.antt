@@ -54,6 +54,10 @@ pub every-left : (t : ℕ → Bool) (n m : Bytes) → every t (n ++ m) ≡ true 
 every-left t [] m h = refl
 every-left t (b ∷ n) m h = and-both (t b) (every t n) (and-left (t b) (every t (n ++ m)) h) (every-left t n m (and-right (t b) (every t (n ++ m)) h))
 
+pub every-right : (t : ℕ → Bool) (n m : Bytes) → every t (n ++ m) ≡ true → every t m ≡ true
+every-right t [] m h = h
+every-right t (b ∷ n) m h = every-right t n m (and-right (t b) (every t (n ++ m)) h)
+
 pub every-append : (t : ℕ → Bool) (n m : Bytes) → every t n ≡ true → every t m ≡ true → every t (n ++ m) ≡ true
 every-append t [] m h k = k
 every-append t (b ∷ n) m h k = and-both (t b) (every t (n ++ m)) (and-left (t b) (every t n) h) (every-append t n m (and-right (t b) (every t n) h) k)

@@ -7,8 +7,9 @@ use Prim.Native.Nat.{ℕ, _<_}
 use Prim.Native.Char.{code}
 use native.Mathlib.Omega.{arith}
 use lib.ListN.{length, length-append}
+use lib.Dec.{leb}
 use Rattle.exact.specs.Exact.{unique, goes, begins-iff}
-use Rattle.grammar.specs.Bytes.{Bytes, digit, among}
+use Rattle.grammar.specs.Bytes.{Bytes, text, digit, among, ByteString}
 use Rattle.grammar.specs.Limits.{ATTRIBUTES}
 use Rattle.grammar.specs.Name.{Name}
 use Rattle.grammar.specs.Reference.{hexDigit, Digits}
@@ -17,14 +18,16 @@ use Rattle.grammar.specs.Tree.{Tree}
 use Rattle.grammar.specs.Message.{Layout, Laid, Message}
 use Rattle.grammar.specs.Answer.{Behind, Open, Answer, endsAt, malformedAt, Answers}
 use Rattle.grammar.specs.Cut.{Piece, Cut}
+use Rattle.model.specs.Tests.{every-right}
 use Rattle.model.specs.Characters.{IsRaw}
 use Rattle.model.specs.References.{decimalBegun, decimal-open, hexadecimalBegun, hexadecimal-open}
 use Rattle.model.specs.Values.{quote-is, ban-ascii, plain-letter}
 use Rattle.model.specs.Names.{live, name-open}
 use Rattle.model.specs.Messages.{layout-exact, messageP, message-exact}
 use Rattle.model.specs.Answers.{behind, begins, is-open, open-left, longest-dead, answerOf, answered, answers-are, Window, to-window, from-window}
-use Rattle.model.specs.Cuts.{cut-one, other-tail}
+use Rattle.model.specs.Cuts.{message-ends, cut-one, other-tail}
 use Rattle.model.specs.Completions.{charBegins, char-begins}
+use Rattle.model.specs.MadeOfBytes.{message-bytes}
 
 -- "it has only one reading"
 pub one-reading : {w : Bytes} {t t′ : Tree} → Message w t → Message w t′ → t ≡ t′
@@ -68,6 +71,18 @@ pub place-first : (s : Bytes) (start place : ℕ) → Answers s (malformedAt sta
 place-first s start place p =
     let (b, r, i, d) = longest-dead (p .longest) (p .shorter) in
     (p .g, p .u, b, r, subst (λ (y : Bytes). Behind s (p .g) y) i (p .behind), p .at-place ∙ sym (length-append (p .g) (p .u)), p .longest .is-open, d)
+
+-- a message is a string of bytes
+pub made-of-bytes : {w : Bytes} {t : Tree} → Message w t → ByteString w
+made-of-bytes = message-bytes
+
+-- so what could still complete a beginning is one too
+pub completed-by-bytes : {x : Bytes} → Open x → (r : Bytes) × (t : Tree) × Message (x ++ r) t × ByteString r
+completed-by-bytes {x} o = (o .rest, o .reading, o .message, every-right (λ b. leb b 255) x (o .rest) (message-bytes (o .message)))
+
+-- "ends with the `>` that closes the root"
+pub ends-with-gt : {w : Bytes} {t : Tree} → Message w t → (v : Bytes) × (w ≡ v ++ text ">")
+ends-with-gt = message-ends
 
 -- which beginnings of an attribute name can still become one that is none of the earlier names
 pub name-begins : (earlier : List Bytes) → length earlier < ATTRIBUTES → (n : Bytes) → (live earlier n ≡ true) ↔ ((m : Bytes) × Name (n ++ m) × (among earlier (n ++ m) ≡ false))

@@ -7,7 +7,7 @@ use Prim.Native.Char.{code}
 use native.Mathlib.Omega.{arith}
 use lib.Dec.{eqb, ltb}
 use borrow.Author.Tests.{eqb-true, eqb-false, lt-ltb}
-use Rattle.number.specs.Bytes.{Bytes, pick, and, digit, figure, some, all, trim, valueFrom}
+use Rattle.number.specs.Bytes.{Bytes, pick, and, digit, figure, nonEmpty, all, trim, valueFrom}
 use Rattle.number.specs.Whole.{Whole, noInt, int, sized, signed, intOf, CAP, capped, paper}
 use Rattle.number.specs.Scan.{run, endsStep, inside, intDigit, intFirst, intBodyStep, sizedAs, intBodyEnd, intStep, intEnd, IntExact}
 use Rattle.number.specs.declared.whole.WholeRead.{WholeRead}
@@ -41,7 +41,7 @@ digits minus n (b ∷ t) = cases (digit b) (λ h. rw (h, cap-more n (figure b)) 
 
 -- behind a sign
 behind-sign : (minus : Bool) (t : Bytes) → paper (intBodyEnd (run intBodyStep (IntBody.Signed minus) t)) ≡ capped (sized minus t)
-unfolding run intBodyStep intBodyEnd intDigit paper capped all some valueFrom sized
+unfolding run intBodyStep intBodyEnd intDigit paper capped all nonEmpty valueFrom sized
 behind-sign minus [] = refl
 behind-sign minus (b ∷ t) = cases (digit b) (λ h. rw h (digits minus (10 * 0 + figure b) t)) (λ h. rw h (dead t))
 
@@ -55,7 +55,7 @@ from-start (b ∷ t) =
 -- a blank among the bytes is no digit and no sign
 blank-sized : (minus : Bool) (t : Bytes) → all solid t ≡ false → sized minus t ≡ noInt
 unfolding sized
-blank-sized minus t h = rw (digits-solid t h, and-false (some t))
+blank-sized minus t h = rw (digits-solid t h, and-false (nonEmpty t))
 
 blank-signed : (t : Bytes) → all solid t ≡ false → signed t ≡ noInt
 unfolding signed all

@@ -12,7 +12,7 @@ use lib.Pow.{pow-add}
 use lib.Dec.{eqb, leb, ltb, leb·suc-suc, leb·suc-zero, leb·zero}
 use lib.ListN.{length}
 use borrow.Author.Tests.{eqb-true, eqb-false, lt-ltb, le-ltb, ltb-true, ltb-false, leb-true, le-leb, lt-leb}
-use Rattle.number.specs.Bytes.{Bytes, pick, and, digit, zeroDigit, figure, some, all, trim, dropFront, dropBack, keepBefore, valueFrom, value, before, behind}
+use Rattle.number.specs.Bytes.{Bytes, pick, and, digit, zeroDigit, figure, nonEmpty, all, trim, dropFront, dropBack, keepBefore, valueFrom, value, before, behind}
 use Rattle.number.specs.Positive.{Number, noNumber, number, written, short, millionths, above, decimal, unsigned, parted, numberOf, numberRead, NumberRange}
 use Rattle.number.specs.Scan.{run, endsStep, inside, TOP, ZEROS, PLACES, joined, zeroMore, grown, beforeAs, afterAs, wholeDigit, partDigit, plusStep, startStep, beforeStep, numberBodyStep, limited, worth, numberBodyEnd, numberStep, numberEnd, NumberExact}
 use Rattle.number.specs.declared.ends.Ends.{Ends}
@@ -272,7 +272,7 @@ swap false true x = refl
 swap false false x = refl
 
 -- the definition's answer, where a digit is there
-decimal-tail : (f g : Bytes) → some (f ++ g) ≡ true → pick (all digit f) (tail 6 (value f) g) noNumber ≡ decimal f g
+decimal-tail : (f g : Bytes) → nonEmpty (f ++ g) ≡ true → pick (all digit f) (tail 6 (value f) g) noNumber ≡ decimal f g
 unfolding decimal written short above millionths limited
 decimal-tail f g s =
     cases (all digit f)
@@ -285,12 +285,12 @@ decimal-tail f g s =
     (λ df. rw df)
 
 from-point : (u : Bytes) → ended NumberBody.Point u ≡ decimal [] u
-unfolding run numberBodyStep numberBodyEnd decimal written all some valueFrom
+unfolding run numberBodyStep numberBodyEnd decimal written all nonEmpty valueFrom
 from-point [] = refl
 from-point (b ∷ u) = after 6 0 0 0 (b ∷ u) refl ∙ decimal-tail [] (b ∷ u) refl
 
 from-plus : (u : Bytes) → ended NumberBody.Plus u ≡ parted u
-unfolding run numberBodyStep numberBodyEnd plusStep beforeStep parted decimal written all some before behind
+unfolding run numberBodyStep numberBodyEnd plusStep beforeStep parted decimal written all nonEmpty before behind
 from-plus [] = refl
 from-plus (b ∷ u) =
     cases (eqb b (code ".")) (λ p. rw p (from-point u))
@@ -317,7 +317,7 @@ and-both false b c h = refl
 
 blank-parted : (u : Bytes) → all solid u ≡ false → parted u ≡ noNumber
 unfolding parted decimal written
-blank-parted u h = rw (and-both (all digit (before u)) (all digit (behind u)) (some (before u ++ behind u)) (blank-parts u h))
+blank-parted u h = rw (and-both (all digit (before u)) (all digit (behind u)) (nonEmpty (before u ++ behind u)) (blank-parts u h))
 
 blank-unsigned : (t : Bytes) → all solid t ≡ false → parted (unsigned t) ≡ noNumber
 unfolding unsigned
@@ -354,8 +354,8 @@ limits f g h =
     let w : written f g ≡ true = and-left (written f g) (and (short f g) (above f g)) h in
     let r : and (short f g) (above f g) ≡ true = and-right (written f g) (and (short f g) (above f g)) h in
     let s : short f g ≡ true = and-left (short f g) (above f g) r in
-    let df : all digit f ≡ true = and-left (all digit f) (and (all digit g) (some (f ++ g))) w in
-    let dg : all digit g ≡ true = and-left (all digit g) (some (f ++ g)) (and-right (all digit f) (and (all digit g) (some (f ++ g))) w) in
+    let df : all digit f ≡ true = and-left (all digit f) (and (all digit g) (nonEmpty (f ++ g))) w in
+    let dg : all digit g ≡ true = and-left (all digit g) (nonEmpty (f ++ g)) (and-right (all digit f) (and (all digit g) (nonEmpty (f ++ g))) w) in
     let lf : leb (length (dropFront zeroDigit f)) 7 ≡ true = and-left (leb (length (dropFront zeroDigit f)) 7) (leb (length (cut g)) 6) s in
     let lg : leb (length (cut g)) 6 ≡ true = and-right (leb (length (dropFront zeroDigit f)) 7) (leb (length (cut g)) 6) s in (
       ltb-true 0 (millionths f g) (and-right (short f g) (above f g) r),

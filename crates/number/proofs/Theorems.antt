@@ -5,7 +5,7 @@ use mathlib.Core.Bool.{Bool}
 use mathlib.Core.List.{[], _∷_}
 use Prim.Native.Nat.{ℕ}
 use native.Mathlib.Omega.{arith}
-use Rattle.number.specs.Bytes.{Bytes, blank, digit, some, all, trim, dropFront, dropBack, keepBefore, valueFrom, before, behind}
+use Rattle.number.specs.Bytes.{Bytes, blank, digit, nonEmpty, all, trim, dropFront, dropBack, keepBefore, valueFrom, before, behind}
 use Rattle.number.specs.Whole.{Whole, noInt, int, sized, signed, intOf, capped, paper, wholeRead}
 use Rattle.number.specs.Positive.{written, short, above, millionths, decimal, parted, unsigned, numberOf, numberRead, NumberRange}
 use Rattle.number.specs.Guid.{guidOf}
@@ -86,5 +86,5 @@ number-range = number-laws.number-range
 
 -- P9 and P10 hold of the definitions
 pub bench-holds : Bench bench
-unfolding intOf signed sized trim dropBack dropFront keepBefore blank some all digit valueFrom numberOf parted unsigned decimal written short above millionths before behind
+unfolding intOf signed sized trim dropBack dropFront keepBefore blank nonEmpty all digit valueFrom numberOf parted unsigned decimal written short above millionths before behind
 bench-holds = (refl, (refl, (refl, (refl, (refl, (refl, (refl, (refl, tt))))))))

@@ -7,7 +7,7 @@ use Prim.Native.Nat.{ℕ}
 use Prim.Native.Char.{code}
 use lib.Dec.{eqb}
 use borrow.Author.Tests.{eqb-true}
-use Rattle.number.specs.Bytes.{Bytes, pick, blank, digit, some, all, dropFront, dropBack, keepBefore, trim}
+use Rattle.number.specs.Bytes.{Bytes, pick, blank, digit, nonEmpty, all, dropFront, dropBack, keepBefore, trim}
 use Rattle.number.specs.Scan.{run, endsStep, inside, broken}
 use Rattle.number.specs.declared.ends.Ends.{Ends}
 use Rattle.number.proofs.Tests.{cases, digit-no-blank}
@@ -63,8 +63,8 @@ module _ {S R : Type 0} (f : S → ℕ → S) (bad : R) (fin : S → R) where
   from-broken s [] = refl
   from-broken s (b ∷ w) = from-broken s w
 
-  some-blank : (b : ℕ) (t : Bytes) → blank b ≡ true → some (keepBefore blank b t) ≡ some t
-  unfolding keepBefore some
+  some-blank : (b : ℕ) (t : Bytes) → blank b ≡ true → nonEmpty (keepBefore blank b t) ≡ nonEmpty t
+  unfolding keepBefore nonEmpty
   some-blank b [] h = rw h
   some-blank b (c ∷ t) h = refl
 
@@ -73,15 +73,15 @@ module _ {S R : Type 0} (f : S → ℕ → S) (bad : R) (fin : S → R) where
   keep-solid b [] h = rw h
   keep-solid b (c ∷ t) h = refl
 
-  from-behind : (s : S) (w : Bytes) → ended Ends.Behind s w ≡ pick (some (dropBack blank w)) bad (fin s)
-  unfolding run body endsStep inside broken dropBack some
+  from-behind : (s : S) (w : Bytes) → ended Ends.Behind s w ≡ pick (nonEmpty (dropBack blank w)) bad (fin s)
+  unfolding run body endsStep inside broken dropBack nonEmpty
   from-behind s [] = refl
   from-behind s (b ∷ w) =
       cases (blank b) (λ h. rw (h, some-blank b (dropBack blank w) h) (from-behind s w))
       (λ h. rw (h, keep-solid b (dropBack blank w) h) (from-broken s w))
 
-  inner-blank : (s : S) (b : ℕ) (t : Bytes) → blank b ≡ true → pick (some t) bad (fin s) ≡ seen s (keepBefore blank b t)
-  unfolding run all keepBefore solid some
+  inner-blank : (s : S) (b : ℕ) (t : Bytes) → blank b ≡ true → pick (nonEmpty t) bad (fin s) ≡ seen s (keepBefore blank b t)
+  unfolding run all keepBefore solid nonEmpty
   inner-blank s b [] h = rw h
   inner-blank s b (c ∷ t) h = rw h
 

@@ -43,9 +43,9 @@ abbrev pub zeroDigit : ℕ → Bool
 zeroDigit b = eqb b (code "0")
 
 -- at least one byte
-unfoldable pub some : Bytes → Bool
-some [] = false
-some (b ∷ s) = true
+unfoldable pub nonEmpty : Bytes → Bool
+nonEmpty [] = false
+nonEmpty (b ∷ s) = true
 
 -- every byte is of the class
 unfoldable pub all : (ℕ → Bool) → Bytes → Bool

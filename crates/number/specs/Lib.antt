@@ -5,3 +5,4 @@ pub mod Guid
 pub mod Version
 pub mod Scan
 pub mod Bench
+pub mod Examples

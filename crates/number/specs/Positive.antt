@@ -6,7 +6,7 @@ use mathlib.Core.Bool.{Bool, true, false}
 use mathlib.Core.List.{[], _∷_, _++_}
 use lib.Dec.{eqb, leb, ltb}
 use lib.ListN.{length}
-use Rattle.number.specs.Bytes.{Bytes, pick, and, digit, zeroDigit, some, all, trim, dropFront, dropBack, value, before, behind}
+use Rattle.number.specs.Bytes.{Bytes, pick, and, digit, zeroDigit, nonEmpty, all, trim, dropFront, dropBack, value, before, behind}
 use Rattle.number.specs.declared.positive.NumberRead.{NumberRead}
 
 -- "at most 7 digits before the point", "at most 6 behind it"
@@ -23,7 +23,7 @@ pub data Number : Type 0 where
 
 -- "digits with at most one point, at least one digit": what stands before the point and what behind it
 unfoldable pub written : Bytes → Bytes → Bool
-written f g = and (all digit f) (and (all digit g) (some (f ++ g)))
+written f g = and (all digit f) (and (all digit g) (nonEmpty (f ++ g)))
 
 -- "After leading zeros are dropped, at most 7 digits before the point; after trailing zeros are dropped, at most 6 behind it"
 unfoldable pub short : Bytes → Bytes → Bool

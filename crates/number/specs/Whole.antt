@@ -4,7 +4,7 @@ use Prim.Native.Char.{code}
 use mathlib.Core.Bool.{Bool, true, false}
 use mathlib.Core.List.{[], _∷_}
 use lib.Dec.{eqb, ltb}
-use Rattle.number.specs.Bytes.{Bytes, pick, and, digit, some, all, trim, value}
+use Rattle.number.specs.Bytes.{Bytes, pick, and, digit, nonEmpty, all, trim, value}
 use Rattle.number.specs.declared.whole.WholeRead.{WholeRead}
 use Rattle.number.specs.declared.whole.WholeRead.the-variants.{Bad, Is}
 
@@ -16,7 +16,7 @@ pub data Whole : Type 0 where
 -- "one or more digits"; minus zero is zero
 unfoldable pub sized : Bool → Bytes → Whole
 sized minus s =
-    pick (and (some s) (all digit s)) (int (and minus (ltb 0 (value s))) (value s)) noInt
+    pick (and (nonEmpty s) (all digit s)) (int (and minus (ltb 0 (value s))) (value s)) noInt
 
 -- "optional sign"
 unfoldable pub signed : Bytes → Whole

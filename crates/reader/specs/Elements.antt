@@ -7,7 +7,7 @@ use lib.ListN.{length, take, drop}
 use Rattle.exact.specs.Exact.{Out, done, Reader}
 use Rattle.exact.specs.Chain.{retP}
 use Rattle.grammar.specs.Bytes.{Bytes}
-use Rattle.grammar.specs.Filler.{Standing, Filler}
+use Rattle.grammar.specs.Filler.{Filler}
 use Rattle.model.specs.Attributes.{Head, headP}
 use Rattle.model.specs.Fillers.{fillP}
 use Rattle.scan.specs.Pieces.{Got, nameTok, chained, gluedP}
@@ -18,22 +18,22 @@ use Rattle.tags.specs.Places.{places}
 use Rattle.reader.specs.declared.elements.Start.{Start}
 
 -- filler and the `<` behind it, wherever it stands
-unfoldable pub fillTok : Standing → Reader Filler
-fillTok st = fillP st retP
+unfoldable pub fillTok : Reader Filler
+fillTok = fillP retP
 
 pub record GotFiller (s : Bytes) (at : ℕ) (r : Step) : Type 0 where
-  pub says : (st : Standing) → Got 1 s at r (fillTok st (drop at s))
+  pub says : Got 1 s at r (fillTok (drop at s))
 
 -- filler and `<`, then q: the equations that proofs use
-pub fill-tok : (st : Standing) (t : Bytes) → fillTok st t ≡ chained (gluedP 60 t) (λ g u. done (record { glue = g }) u)
+pub fill-tok : (t : Bytes) → fillTok t ≡ chained (gluedP 60 t) (λ g u. done (record { glue = g }) u)
 unfolding fillTok fillP
-fill-tok st t = glued-bind 60 (λ g. retP (record { glue = g })) t
+fill-tok t = glued-bind 60 (λ g. retP (record { glue = g })) t
 
-pub fill-bind : {A : Type 0} (st : Standing) (q : Filler → Reader A) (t : Bytes) → fillP st q t ≡ chained (fillTok st t) q
+pub fill-bind : {A : Type 0} (q : Filler → Reader A) (t : Bytes) → fillP q t ≡ chained (fillTok t) q
 unfolding fillP chained
-fill-bind {A} st q t =
+fill-bind q t =
     glued-bind 60 (λ g. q (record { glue = g })) t
-    ∙ sym (ap (λ (o : Out Filler). chained o q) (fill-tok st t) ∙ and-and (gluedP 60 t) (λ g u. done (record { glue = g }) u) q ∙ and-ext (gluedP 60 t) (λ g u. handed (record { glue = g }) u))
+    ∙ sym (ap (λ (o : Out Filler). chained o q) (fill-tok t) ∙ and-and (gluedP 60 t) (λ g u. done (record { glue = g }) u) q ∙ and-ext (gluedP 60 t) (λ g u. handed (record { glue = g }) u))
   where
     handed : (f : Filler) (u : Bytes) → chained (done f u) q ≡ q f u
     handed f u = refl

@@ -1,5 +1,5 @@
--- What the promises of `read` and `outline` determine, and demand 3 in terms of them. `Answers s (paper r)` is what `read`
--- promises of its answer r.
+-- What the promises of `read` and `outline` determine, and what each answer of `read` says: `Answers s (paper r)` is what it
+-- promises of its answer r. Of every result it is said in Demand3.
 use mathlib.Core.Path.{_≡_, refl, sym, ap, subst, _∙_}
 use mathlib.Core.List.{List, [], _∷_, _++_, append-assoc, append-nil}
 use mathlib.Core.Logic.{_↔_}
@@ -22,7 +22,7 @@ use Rattle.grammar.specs.Cut.{Piece, Cut, cut-end, cut-piece}
 use Rattle.model.specs.Messages.{message-exact}
 use Rattle.model.specs.Answers.{behind-one}
 use Rattle.model.specs.Cuts.{message-starts, piece-behind}
-use Rattle.model.specs.Theorems.{one-layout, answers-only, tail-free as tail-free-by, place-first as place-first-by}
+use Rattle.model.specs.Theorems.{one-layout, answers-only, tail-free as tail-free-by}
 use Rattle.reader.specs.Outline.{childOf, lead, insideFrom, Outlines}
 use Rattle.reader.specs.Answer.{paper, Accepted, RestOf, Outlined}
 use Rattle.reader.specs.declared.answer.Answer.{Answer}
@@ -154,11 +154,6 @@ more-iff {s} {g} {x} p h = (to, λ (o, n). record { g = g; x = x; behind = p; is
   where
     to : Answers s (moreFrom (length g)) → Open x × ¬ EndedIn x
     to q = let e = behind-one (q .behind) p .1 in (subst (λ (y : Bytes). Open y) e (q .is-open), subst (λ (y : Bytes). ¬ EndedIn y) e (q .unended))
-
--- "otherwise reading answers malformed, at the first byte after which none could"
-pub place-first : (s : Bytes) (start place : ℕ) → Answers s (paper (Malformed start place))
-    → (g : Bytes) × (u : Bytes) × (b : ℕ) × (r : Bytes) × Behind s g (u ++ b ∷ r) × (place ≡ length (g ++ u)) × Open u × ¬ Open (u ++ b ∷ [])
-place-first = place-first-by
 
 -- nothing behind the end of a message matters
 pub tail-free : (s r r′ : Bytes) (start : ℕ) → Answers (s ++ r) (paper (Ends start (length s))) → Answers (s ++ r′) (paper (Ends start (length s)))

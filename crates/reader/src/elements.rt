@@ -6,6 +6,7 @@ ghost use Rattle.model.specs.Elements.{elemP, contentP};
 ghost use Rattle.scan.specs.Pieces.{Got, endTagP};
 ghost use Rattle.reader.specs.Elements.{GotFiller, GotStart};
 use scan::Step;
+use tags::attributes::Places;
 
 /// What may stand between elements, and the `<` behind it.
 pub fn filler_lt(s: &[u8], at: usize) -> Step
@@ -40,7 +41,7 @@ pub struct Start {
 }
 
 /// A start tag or an empty tag, behind its `<`.
-pub fn start_tag(s: &[u8], at: usize, table: &mut [usize; 128]) -> Start
+pub fn start_tag(s: &[u8], at: usize, table: &mut Places) -> Start
     requires { ⌜ at ≤ length (now s) ⌝ }
     ensures { λ r. ⌜ GotStart (now (s .entry)) at (now (table .entry)) (now (table .exit)) r ⌝ }
 {
@@ -64,7 +65,7 @@ pub fn start_tag(s: &[u8], at: usize, table: &mut [usize; 128]) -> Start
 }
 
 /// An element, behind its `<`, in which `left` more may be open.
-pub fn element(s: &[u8], at: usize, left: usize, table: &mut [usize; 128]) -> Step
+pub fn element(s: &[u8], at: usize, left: usize, table: &mut Places) -> Step
     requires { ⌜ at ≤ length (now s) ⌝ }
     ensures { λ r. ⌜ Got 1 (now (s .entry)) at r (elemP (contentP left) (drop at (now (s .entry)))) ⌝ }
 {
@@ -81,14 +82,7 @@ pub fn element(s: &[u8], at: usize, left: usize, table: &mut [usize; 128]) -> St
 }
 
 /// Elements with filler around them, and the end tag of the name that stands from `from` to `to`.
-pub fn content(
-    s: &[u8],
-    at: usize,
-    left: usize,
-    from: usize,
-    to: usize,
-    table: &mut [usize; 128],
-) -> Step
+pub fn content(s: &[u8], at: usize, left: usize, from: usize, to: usize, table: &mut Places) -> Step
     requires { ⌜ (at ≤ length (now s)) × (from ≤ to) × (to ≤ length (now s)) ⌝ }
     ensures { λ r. ⌜ Got 1 (now (s .entry)) at r (contentP left (take (to - from) (drop from (now (s .entry)))) (drop at (now (s .entry)))) ⌝ }
 {

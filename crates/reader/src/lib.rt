@@ -14,6 +14,8 @@ use answer::Child;
 use answer::Outline;
 use grammar::Limits;
 use scan::Step;
+use tags::attributes::PLACES;
+use tags::attributes::Places;
 
 /// At most as many bytes as a message may have.
 fn window(left: usize) -> usize
@@ -40,7 +42,7 @@ fn unread(answer: Answer) -> Outline
 
 /// What stands behind the glue in front of s; of a message the attributes of its root's child have their places in the
 /// table. Without a message the table is scratch.
-pub fn outline(s: &[u8], table: &mut [usize; 128]) -> Outline
+pub fn outline(s: &[u8], table: &mut Places) -> Outline
     ensures { λ r. ⌜ Outlined (now (s .entry)) (now (table .entry)) (now (table .exit)) r ⌝ }
 {
     let start = scan::skip_glue(s, 0);
@@ -76,7 +78,7 @@ pub fn outline(s: &[u8], table: &mut [usize; 128]) -> Outline
 pub fn read(s: &[u8]) -> Answer
     ensures { λ r. ⌜ Answers (now (s .entry)) (paper r) ⌝ }
 {
-    let mut table = [0usize; 128];
+    let mut table = [0usize; PLACES];
     let o = outline(s, &mut table);
     o.answer
 }
@@ -97,7 +99,7 @@ fn no_child() -> Child
 
 /// The element that stands at `at` behind filler, as the next child stands in the content of a message's root's child or
 /// below it; its attributes have their places in the table. Where there is none the table is scratch.
-pub fn child(s: &[u8], at: usize, table: &mut [usize; 128]) -> Child
+pub fn child(s: &[u8], at: usize, table: &mut Places) -> Child
     ensures { λ r. ⌜ NextChild (now (s .entry)) at (now (table .entry)) (now (table .exit)) r ⌝ }
 {
     if s.len() < at {

@@ -10,6 +10,11 @@ use crate::declaration;
 use crate::elements;
 use grammar::Limits;
 use scan::Step;
+use tags::attributes::PLACES;
+use tags::attributes::Places;
+
+// The name of the root.
+const HERMES: [u8; 6] = *b"Hermes";
 
 /// Where reading ended; and of an element where its name stands, how many attributes it has, and the place behind its
 /// start tag, 0 if it is an empty tag.
@@ -35,7 +40,7 @@ pub fn ended(c: Inner, end: Step) -> Inner
 }
 
 /// An element, behind its `<`, in which `left` more may be open; its attributes have their places in the table.
-pub fn child_at(s: &[u8], at: usize, left: usize, table: &mut [usize; 128]) -> Inner
+pub fn child_at(s: &[u8], at: usize, left: usize, table: &mut Places) -> Inner
     requires { ⌜ at ≤ length (now s) ⌝ }
     ensures { λ r. ⌜ GotInner itself none (now (s .entry)) at (now (table .entry)) (now (table .exit)) r (elemP (contentP left) (drop at (now (s .entry)))) ⌝ }
 {
@@ -60,7 +65,7 @@ pub fn child_at(s: &[u8], at: usize, left: usize, table: &mut [usize; 128]) -> I
             inside: 0,
         };
     }
-    let mut other = [0usize; 128];
+    let mut other = [0usize; PLACES];
     let r = elements::content(s, e, left, at, to, &mut other);
     Inner {
         end: r,
@@ -72,7 +77,7 @@ pub fn child_at(s: &[u8], at: usize, left: usize, table: &mut [usize; 128]) -> I
 }
 
 /// Behind the `<` of the root's child: the child, filler, and the end tag of the name that stands from `from` to `to`.
-pub fn inside(s: &[u8], at: usize, from: usize, to: usize, table: &mut [usize; 128]) -> Inner
+pub fn inside(s: &[u8], at: usize, from: usize, to: usize, table: &mut Places) -> Inner
     requires { ⌜ (at ≤ length (now s)) × (from ≤ to) × (to ≤ length (now s)) ⌝ }
     ensures { λ r. ⌜ GotInside (take (to - from) (drop from (now (s .entry)))) (now (s .entry)) at (now (table .entry)) (now (table .exit)) r ⌝ }
 {
@@ -103,15 +108,15 @@ pub fn without(end: Step) -> Inner
 }
 
 /// The root, behind its `<`.
-pub fn root(s: &[u8], at: usize, table: &mut [usize; 128]) -> Inner
+pub fn root(s: &[u8], at: usize, table: &mut Places) -> Inner
     requires { ⌜ at ≤ length (now s) ⌝ }
     ensures { λ r. ⌜ GotInner innerOf rootLead (now (s .entry)) at (now (table .entry)) (now (table .exit)) r (rootP (drop at (now (s .entry)))) ⌝ }
 {
-    let r = scan::literal(s, at, b"Hermes");
+    let r = scan::literal(s, at, &HERMES);
     let Step::Done(a) = r else {
         return without(r);
     };
-    let mut other = [0usize; 128];
+    let mut other = [0usize; PLACES];
     let tag = tags::attributes::head(s, a, false, &mut other);
     let r = tag.end;
     let Step::Done(e) = r else {
@@ -125,7 +130,7 @@ pub fn root(s: &[u8], at: usize, table: &mut [usize; 128]) -> Inner
 }
 
 /// Behind `<?`: a declaration, filler, and the root.
-pub fn declared(s: &[u8], at: usize, table: &mut [usize; 128]) -> Inner
+pub fn declared(s: &[u8], at: usize, table: &mut Places) -> Inner
     requires { ⌜ at ≤ length (now s) ⌝ }
     ensures { λ r. ⌜ GotInner childOf declaredLead (now (s .entry)) at (now (table .entry)) (now (table .exit)) r (declaredP (drop at (now (s .entry)))) ⌝ }
 {
@@ -141,7 +146,7 @@ pub fn declared(s: &[u8], at: usize, table: &mut [usize; 128]) -> Inner
 }
 
 /// A message.
-pub fn message(s: &[u8], at: usize, table: &mut [usize; 128]) -> Inner
+pub fn message(s: &[u8], at: usize, table: &mut Places) -> Inner
     requires { ⌜ at ≤ length (now s) ⌝ }
     ensures { λ r. ⌜ GotInner childOf lead (now (s .entry)) at (now (table .entry)) (now (table .exit)) r (layoutP (drop at (now (s .entry)))) ⌝ }
 {

@@ -14,84 +14,82 @@ use Rattle.grammar.specs.Bytes.{Bytes}
 use Rattle.writing.proofs.EscapeLaws.{Unnamed}
 use Rattle.value.specs.Text.{Text, asRead}
 use Rattle.value.specs.AsRead.{raw-as-read-iff}
-use Rattle.value.specs.Asking.{Answer, no-value, stands, no-room, decoded, TextSays, absent, outside, there}
+use Rattle.value.specs.Asking.{Told, refused, paper, Answer, no-value, stands, no-room, decoded, TextSays, absent, outside, there}
 use Rattle.value.specs.Asked.{refusalOf}
+use Rattle.value.specs.Only.{paper-injective}
 use Rattle.value.specs.Parts.{placed, partOr, partAt, Lies}
 use Rattle.value.specs.declared.text.Span.{Span}
 use Rattle.value.specs.declared.text.Words.{Words}
 use Rattle.value.specs.declared.text.Words.the-variants.{Present}
 use Rattle.value.specs.declared.text.TextAt.{TextAt}
-use Rattle.value.specs.declared.text.TextAt.the-variants.{InMessage, InScratch, No}
-use Rattle.writer.specs.Written.{writtenOf}
-use Rattle.emit.specs.Writes.{refusedBy, Writes}
-use Rattle.emit.specs.declared.writing_out.Written.{Written}
+use Rattle.value.specs.declared.text.TextAt.the-variants.{InMessage, InScratch}
+use Rattle.meant.specs.Written.{writtenOf}
+use Rattle.writes.specs.Writes.{refusedBy, Writes}
+use Rattle.writes.specs.declared.messages.Written.{Written}
 use Rattle.replies.specs.First.{First}
 use Rattle.replies.specs.Replies.{sameOf, bareOf, Reply, same-id, no-id, Replies, replied, too-long, outside as lies-outside, no-text}
 use Rattle.replies.proofs.ReadLaws.{read-is-text}
 use Rattle.replies.proofs.ReplyLaws.{written-too-long, bare-first, same-first, same-too-long}
 
 -- what is known of the Id by the number that was said of it
-module _ {s : Bytes} {w : Words} {room scratch : Bytes} {at : TextAt} {k : ℕ} (says : TextSays s w room scratch at) (said : k ≡ refusalOf at) where
-  number-of : {t : TextAt} → at ≡ t → k ≡ refusalOf t
-  number-of e = said ∙ ap refusalOf e
-
-  no-number : {X : Type 0} {n : ℕ} (m : ℕ) → at ≡ No m → k ≡ n → (m ≡ n → ⊥) → X
+module _ {s : Bytes} {w : Words} {room scratch : Bytes} (at : TextAt) {k : ℕ} (says : TextSays s w room scratch (paper at)) (said : k ≡ refusalOf at) where
+  number-of : {t : Told} → paper at ≡ t → k ≡ t .number
   unfolding refusalOf
+  number-of e = said ∙ ap (λ (t : Told). t .number) e
+
+  no-number : {X : Type 0} {n : ℕ} (m : ℕ) → paper at ≡ refused m → k ≡ n → (m ≡ n → ⊥) → X
   no-number m e h f = absurd (f (sym (number-of e) ∙ h))
 
   -- 4
   pub says-absent : {old new : Bytes} {r : Written} → k ≡ 4 → Writes bareOf [] old new r → Replies s w old new r
-  unfolding refusalOf
   says-absent {old} {new} {r} h x = go says
     where
-      not-four : {X : Type 0} {t : TextAt} → at ≡ t → refusalOf t ≡ 0 → X
+      not-four : {X : Type 0} {t : Told} → paper at ≡ t → t .number ≡ 0 → X
       not-four e f = absurd (let z = sym h ∙ number-of e ∙ f in omega arith)
 
-      there-not : {X : Type 0} {v : Bytes} {p : Span} → Answer v p room scratch at → X
+      there-not : {X : Type 0} {v : Bytes} {p : Span} → Answer v p room scratch (paper at) → X
       there-not (no-value n e f) = no-number 6 e h (λ z. omega arith)
       there-not (stands v t a e f) = not-four e refl
       there-not (no-room v t a l e f) = no-number 7 e h (λ z. omega arith)
       there-not (decoded v t a l e f) = not-four e refl
 
-      go : TextSays s w room scratch at → Replies s w old new r
+      go : TextSays s w room scratch (paper at) → Replies s w old new r
       go (absent e f g) = replied (writtenOf bareOf []) (no-id e refl) (bare-first x)
       go (outside p e l f g) = no-number 6 f h (λ z. omega arith)
       go (there p e l a) = there-not a
 
   -- 6
   pub says-no-text : {old : Bytes} → k ≡ 6 → Replies s w old old (refusedBy 6)
-  unfolding refusalOf
   says-no-text {old} h = go says
     where
-      not-six : {X : Type 0} {t : TextAt} → at ≡ t → refusalOf t ≡ 0 → X
+      not-six : {X : Type 0} {t : Told} → paper at ≡ t → t .number ≡ 0 → X
       not-six e f = absurd (let z = sym h ∙ number-of e ∙ f in omega arith)
 
-      of : (p : Span) → w ≡ Present p → p .start + p .len ≤ length s → Answer (take (p .len) (drop (p .start) s)) p room scratch at → Replies s w old old (refusedBy 6)
+      of : (p : Span) → w ≡ Present p → p .start + p .len ≤ length s → Answer (take (p .len) (drop (p .start) s)) p room scratch (paper at) → Replies s w old old (refusedBy 6)
       of p e l (no-value n f g) = no-text p e l n refl refl
       of p e l (stands v t a f g) = not-six f refl
       of p e l (no-room v t a m f g) = no-number 7 f h (λ z. omega arith)
       of p e l (decoded v t a m f g) = not-six f refl
 
-      go : TextSays s w room scratch at → Replies s w old old (refusedBy 6)
+      go : TextSays s w room scratch (paper at) → Replies s w old old (refusedBy 6)
       go (absent e f g) = no-number 4 f h (λ z. omega arith)
       go (outside p e l f g) = lies-outside p e l refl refl
       go (there p e l a) = of p e l a
 
   -- 7, with 80 bytes of room
   pub says-no-room : {old : Bytes} → length room ≡ 80 → Unnamed (6 ∷ 4 ∷ 0 ∷ []) k → Replies s w old old (refusedBy 5)
-  unfolding refusalOf
   says-no-room {old} long u = go says
     where
-      not-zero : {X : Type 0} {t : TextAt} → at ≡ t → refusalOf t ≡ 0 → X
+      not-zero : {X : Type 0} {t : Told} → paper at ≡ t → t .number ≡ 0 → X
       not-zero e f = absurd (u .0 .0 .1 (number-of e ∙ f))
 
-      of : (p : Span) → w ≡ Present p → p .start + p .len ≤ length s → Answer (take (p .len) (drop (p .start) s)) p room scratch at → Replies s w old old (refusedBy 5)
+      of : (p : Span) → w ≡ Present p → p .start + p .len ≤ length s → Answer (take (p .len) (drop (p .start) s)) p room scratch (paper at) → Replies s w old old (refusedBy 5)
       of p e l (no-value n f g) = absurd (u .1 (number-of f))
       of p e l (stands v t a f g) = not-zero f refl
       of p e l (no-room v t a m f g) = too-long p e l v t (omega arith) refl refl
       of p e l (decoded v t a m f g) = not-zero f refl
 
-      go : TextSays s w room scratch at → Replies s w old old (refusedBy 5)
+      go : TextSays s w room scratch (paper at) → Replies s w old old (refusedBy 5)
       go (absent e f g) = absurd (u .0 .1 (number-of f))
       go (outside p e l f g) = absurd (u .1 (number-of f))
       go (there p e l a) = of p e l a
@@ -118,16 +116,15 @@ module _ {s : Bytes} {w : Words} {room scratch : Bytes} {at : TextAt} {k : ℕ} 
         by x false f = let y = written-too-long {m = sameOf (length v)} (same-too-long v (leb-false (length v) 80 f)) x in too-long p e l v t (leb-false (length v) 80 f) (y .0) (y .1)
 
     pub says-text : {old new : Bytes} {r : Written} → k ≡ 0 → Writes (sameOf (length (now part))) (now part) old new r → Replies s w old new r
-    unfolding refusalOf
     says-text {old} {new} {r} h x = go says
       where
-        of : (p : Span) → w ≡ Present p → p .start + p .len ≤ length s → Answer (take (p .len) (drop (p .start) s)) p room scratch at → Replies s w old new r
+        of : (p : Span) → w ≡ Present p → p .start + p .len ≤ length s → Answer (take (p .len) (drop (p .start) s)) p room scratch (paper at) → Replies s w old new r
         of p e l (no-value n f g) = no-number 6 f h (λ z. omega arith)
-        of p e l (stands v t y f g) = with-text p e l v t (in-message p f l ∙ sym (raw-as-read-iff t .0 y)) x
+        of p e l (stands v t y f g) = with-text p e l v t (in-message p (paper-injective at (InMessage p) f) l ∙ sym (raw-as-read-iff t .0 y)) x
         of p e l (no-room v t y m f g) = no-number 7 f h (λ z. omega arith)
-        of p e l (decoded v t y m f g) = with-text p e l v t (in-scratch v f g) x
+        of p e l (decoded v t y m f g) = with-text p e l v t (in-scratch v (paper-injective at (InScratch (length v)) f) g) x
 
-        go : TextSays s w room scratch at → Replies s w old new r
+        go : TextSays s w room scratch (paper at) → Replies s w old new r
         go (absent e f g) = no-number 4 f h (λ z. omega arith)
         go (outside p e l f g) = no-number 6 f h (λ z. omega arith)
         go (there p e l y) = of p e l y

@@ -13,17 +13,17 @@ use Rattle.writing.specs.Decided.{isText}
 use Rattle.writing.proofs.EscapeLaws.{Unnamed}
 use Rattle.value.specs.Text.{Text}
 use Rattle.value.specs.declared.text.Words.the-variants.{Absent as NoWords}
-use Rattle.message.specs.Table.{table, rowsOf}
-use Rattle.message.specs.Fields.{messageFrom}
+use Rattle.table.specs.Table.{table, isKind, rowsOf}
+use Rattle.message.specs.Fields.{messageFrom, fieldsOf}
 use Rattle.message.specs.declared.kinds.Notification.{Notification as Notice}
 use Rattle.message.specs.declared.kinds.CheckAlive.{CheckAlive as Alive}
 use Rattle.message.specs.declared.kinds.Message.{Message}
-use Rattle.writer.specs.Meant.{fieldsOf, meantBy, meantOf, refusalOf}
-use Rattle.writer.specs.Written.{writtenOf}
-use Rattle.writer.specs.Notices.{description, notice, noticeMessage}
-use Rattle.writer.proofs.Theorems.{notice-written, notice-sendable}
-use Rattle.emit.specs.Writes.{refusedBy, answerOf, bufferOf, Writes}
-use Rattle.emit.specs.declared.writing_out.Written.{Written}
+use Rattle.meant.specs.Meant.{meantBy, meantOf, refusalOf}
+use Rattle.meant.specs.Written.{writtenOf}
+use Rattle.meant.specs.Notices.{description, notice, noticeMessage}
+use Rattle.meant.proofs.Theorems.{notice-written, notice-sendable}
+use Rattle.writes.specs.Writes.{refusedBy, answerOf, bufferOf, Writes}
+use Rattle.writes.specs.declared.messages.Written.{Written}
 use Rattle.replies.specs.First.{First}
 use Rattle.replies.specs.Replies.{noticeOf, sameOf, bareOf}
 
@@ -38,7 +38,7 @@ pub built : {m m′ : Message} {texts old new : Bytes} {r : Written} → m ≡ m
 built {texts = texts} {old} {new} {r} e w = subst (λ (m : Message). Writes m texts old new r) e w
 
 -- a message that is not refused
-pub written-first : {m : Message} {texts b old new : Bytes} {r : Written} → refusalOf m texts ≡ 0 → within 1 10 (m .kind) ≡ true → b ≡ writtenOf m texts → Writes m texts old new r → First b old new r
+pub written-first : {m : Message} {texts b old new : Bytes} {r : Written} → refusalOf m texts ≡ 0 → isKind (m .kind) ≡ true → b ≡ writtenOf m texts → Writes m texts old new r → First b old new r
 unfolding answerOf bufferOf
 written-first {m} {texts} z k e w =
     let f = eq-eqb (refusalOf m texts) 0 z in
@@ -51,7 +51,7 @@ written-too-long z w = (w .answer ∙ rw z refl, w .buffer ∙ rw z refl)
 
 -- the Notification of a description
 pub notified : (n : ℕ) {d old new : Bytes} {r : Written} → description n ≡ d → Writes (noticeOf (length d)) d old new r → First (notice n) old new r
-unfolding noticeMessage noticeOf messageFrom within
+unfolding noticeMessage noticeOf messageFrom isKind table
 notified n {d} {old} {new} {r} e w =
     written-first {m = noticeMessage n} (notice-sendable n) refl (notice-written n) (subst (λ (d : Bytes). Writes (noticeOf (length d)) d old new r) (sym e) w)
 
@@ -67,7 +67,7 @@ unfolding bareOf messageFrom fieldsOf rowsOf table meantOf meantBy within
 bare-sendable = refl
 
 pub bare-first : {old new : Bytes} {r : Written} → Writes bareOf [] old new r → First (writtenOf bareOf []) old new r
-unfolding bareOf messageFrom within
+unfolding bareOf messageFrom isKind table
 bare-first w = written-first {m = bareOf} bare-sendable refl refl w
 
 -- the reply with an Id
@@ -83,5 +83,5 @@ unfolding sameOf messageFrom fieldsOf rowsOf table meantOf meantBy within
 same-too-long v h = rw (lt-leb (length v) 80 h) refl
 
 pub same-first : (v : Bytes) {old new : Bytes} {r : Written} → isText v ≡ true → length v ≤ 80 → Writes (sameOf (length v)) v old new r → First (writtenOf (sameOf (length v)) v) old new r
-unfolding sameOf messageFrom within
+unfolding sameOf messageFrom isKind table
 same-first v t h w = written-first {m = sameOf (length v)} (same-sendable v t h) refl refl w

@@ -16,14 +16,14 @@ use Rattle.value.specs.declared.text.Span.{Span}
 use Rattle.value.specs.declared.text.Words.{Words}
 use Rattle.value.specs.declared.text.Words.the-variants.{Absent as NoWords, Present as IsWords}
 use Rattle.writing.specs.Decided.{isText}
-use Rattle.message.specs.Table.{table, rowsOf}
-use Rattle.message.specs.Says.{Result, absent, present, aText, anInt, saidOf}
-use Rattle.message.specs.Fields.{messageFrom}
-use Rattle.writer.specs.Meant.{fieldsOf, meantBy, meantOf}
-use Rattle.writer.specs.Written.{writtenOf}
-use Rattle.writer.specs.Notices.{notice}
-use Rattle.writer.proofs.Theorems.{reads-back, written-most, most-each}
-use Rattle.emit.specs.declared.writing_out.Written.{Written}
+use Rattle.table.specs.Table.{table, isKind, rowsOf}
+use Rattle.table.specs.Says.{Result, absent, present, aText, anInt, saidOf}
+use Rattle.message.specs.Fields.{messageFrom, fieldsOf}
+use Rattle.meant.specs.Meant.{meantBy, meantOf}
+use Rattle.meant.specs.Written.{writtenOf}
+use Rattle.meant.specs.Notices.{notice}
+use Rattle.meant.proofs.Theorems.{reads-back, written-most, most-each}
+use Rattle.writes.specs.declared.messages.Written.{Written}
 use Rattle.replies.specs.First.{First}
 use Rattle.replies.specs.Replies.{sameOf, bareOf, Reply, same-id, no-id, Replies, replied, too-long, outside, no-text, SameId}
 use Rattle.replies.proofs.ReadLaws.{read-is-text}
@@ -108,15 +108,15 @@ Back : Bytes → List Result → Type 0
 Back b l = (t : Tree) × IsMessage b t × (saidOf t .kind ≡ 10) × (saidOf t .refusal ≡ 0) × (saidOf t .values ≡ l)
 
 same-back : (v : Bytes) → isText v ≡ true → length v ≤ 80 → Back (writtenOf (sameOf (length v)) v) (present (anInt 2) ∷ present (aText v) ∷ [])
-unfolding Back sameOf messageFrom
+unfolding Back sameOf messageFrom isKind table
 same-back v t h =
-    let (x, m, k, z, l) = reads-back (sameOf (length v)) v (omega arith) (omega arith) (same-sendable v t h) in
+    let (x, m, k, z, l) = reads-back (sameOf (length v)) v refl (same-sendable v t h) in
     (x, m, k, z, l ∙ same-meant v t h)
 
 bare-back : Back (writtenOf bareOf []) (present (anInt 2) ∷ absent ∷ [])
-unfolding Back bareOf messageFrom
+unfolding Back bareOf messageFrom isKind table
 bare-back =
-    let (x, m, k, z, l) = reads-back bareOf [] (omega arith) (omega arith) bare-sendable in
+    let (x, m, k, z, l) = reads-back bareOf [] refl bare-sendable in
     (x, m, k, z, l ∙ bare-meant)
 
 -- T2.L10: a reply reads as a CheckAlive, "Type 2 and the same Id, or no Id"

@@ -6,8 +6,8 @@ use Prim.Native.Nat.{ℕ}
 use lib.ListN.{length, drop}
 use lib.Dec.{leb}
 use Rattle.grammar.specs.Bytes.{Bytes}
-use Rattle.emit.specs.Writes.{refusedBy}
-use Rattle.emit.specs.declared.writing_out.Written.{Written}
+use Rattle.writes.specs.Writes.{refusedBy}
+use Rattle.writes.specs.declared.messages.Written.{Written}
 
 -- "7 is given exactly if the bytes to be written, a Notification too, are more than the buffer holds"
 abbrev pub countOf : Bytes → ℕ → Written

@@ -10,13 +10,13 @@ use Rattle.value.specs.Asking.{NoText}
 use Rattle.value.specs.declared.text.Span.{Span}
 use Rattle.value.specs.declared.text.Words.{Words}
 use Rattle.value.specs.declared.text.Words.the-variants.{Absent as NoWords, Present as IsWords}
-use Rattle.message.specs.Says.{Result, absent, present, aText, anInt}
+use Rattle.table.specs.Says.{Result, absent, present, aText, anInt}
 use Rattle.message.specs.Fields.{aWords, aWhole, messageFrom}
 use Rattle.message.specs.declared.values.Whole.the-variants.{Present as IsWhole}
 use Rattle.message.specs.declared.kinds.Message.{Message}
-use Rattle.writer.specs.Written.{writtenOf}
-use Rattle.emit.specs.Writes.{refusedBy}
-use Rattle.emit.specs.declared.writing_out.Written.{Written}
+use Rattle.meant.specs.Written.{writtenOf}
+use Rattle.writes.specs.Writes.{refusedBy}
+use Rattle.writes.specs.declared.messages.Written.{Written}
 use Rattle.replies.specs.First.{First}
 
 -- the Notification of code 1, severity 1 and a description of n bytes, which are the texts

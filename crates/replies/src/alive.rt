@@ -1,33 +1,33 @@
 // The reply to a CheckAlive of Type 1.
 ghost use lib.ListN.{length};
 ghost use mathlib.Core.List.{[]};
-ghost use Rattle.emit.specs.Writes.{Writes};
+ghost use Rattle.writes.specs.Writes.{Writes};
 ghost use Rattle.replies.specs.Replies.{bareOf, sameOf, Replies};
-use emit::Written;
 use lane::Kind;
 use message::kinds::CheckAlive;
 use message::values::Whole;
 use value::Span;
 use value::Words;
+use writes::Written;
 
 // Without an Id.
 fn reply_bare(out: &mut [u8]) -> Written
     ensures { λ r. ⌜ Writes bareOf [] (now (out .entry)) (now (out .exit)) r ⌝ }
 {
-    let mut m = message::blank(Kind::CHECK_ALIVE);
+    let mut m = structs::blank(Kind::CHECK_ALIVE);
     let alive = CheckAlive {
         ping: Whole::Present(2),
         id: Words::Absent,
     };
     m.alive = alive;
-    emit::write(m, b"", out)
+    writes::write(m, b"", out)
 }
 
 // With the Id v.
 fn reply_with(v: &[u8], out: &mut [u8]) -> Written
     ensures { λ r. ⌜ Writes (sameOf (length (now (v .entry)))) (now (v .entry)) (now (out .entry)) (now (out .exit)) r ⌝ }
 {
-    let mut m = message::blank(Kind::CHECK_ALIVE);
+    let mut m = structs::blank(Kind::CHECK_ALIVE);
     let whole = Span {
         start: 0,
         len: v.len(),
@@ -37,7 +37,7 @@ fn reply_with(v: &[u8], out: &mut [u8]) -> Written
         id: Words::Present(whole),
     };
     m.alive = alive;
-    emit::write(m, v, out)
+    writes::write(m, v, out)
 }
 
 /// The reply to a CheckAlive, first in the buffer: Type 2 and the same Id, which is the value `id` of the message s. 5 if it reads as more

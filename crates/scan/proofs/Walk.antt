@@ -16,7 +16,7 @@ use Rattle.model.specs.Names.{live, new, live-view, of-live, live-shut}
 use Rattle.exact.specs.Exact.{done, more, bad}
 use Rattle.exact.specs.Chain.{retP}
 use Rattle.exact.specs.Token.{tokenP}
-use Rattle.grammar.specs.Bytes.{Bytes, every, some}
+use Rattle.grammar.specs.Bytes.{Bytes, every, nonEmpty}
 use Rattle.grammar.specs.Glue.{isGlue}
 use Rattle.grammar.specs.Name.{nameStart, nameByte, shaped}
 use Rattle.grammar.specs.Reference.{lt}
@@ -74,11 +74,11 @@ module _ (s : Bytes) (at : ℕ) where
       record { says = (omega arith, h, walked-stop (every isGlue) always s at i (k .walked) h (every-snoc isGlue (take (i - at) (drop at s)) (getD s i 0) (k .ends h)) refl) }
 
 -- names
-shape-snoc : (n : Bytes) (b : ℕ) → some n ≡ true → nameByte b ≡ true → shaped n ≡ true → shaped (n ++ b ∷ []) ≡ true
+shape-snoc : (n : Bytes) (b : ℕ) → nonEmpty n ≡ true → nameByte b ≡ true → shaped n ≡ true → shaped (n ++ b ∷ []) ≡ true
 shape-snoc [] b z h k = absurd (let y : _≡_ {A = ℕ} 0 1 = cc in omega arith)
 shape-snoc (c ∷ n) b z h k = and-both (nameStart c) (every nameByte (n ++ b ∷ [])) (and-left (nameStart c) (every nameByte n) k) (every-append nameByte n (b ∷ []) (and-right (nameStart c) (every nameByte n) k) (rw h))
 
-some-true : (n : Bytes) → 0 < length n → some n ≡ true
+some-true : (n : Bytes) → 0 < length n → nonEmpty n ≡ true
 some-true [] h = absurd (omega arith)
 some-true (b ∷ n) h = refl
 

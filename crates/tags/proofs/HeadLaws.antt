@@ -19,7 +19,7 @@ use Rattle.exact.specs.Exact.{Out}
 use Rattle.exact.specs.Chain.{ifP}
 use Rattle.exact.specs.Byte.{pick, starts, choiceP}
 use Rattle.exact.specs.Loop.{onward, loopP}
-use Rattle.grammar.specs.Bytes.{Bytes, some, fits}
+use Rattle.grammar.specs.Bytes.{Bytes, nonEmpty, fits}
 use Rattle.grammar.specs.Limits.{ATTRIBUTES}
 use Rattle.grammar.specs.Name.{nameStart}
 use Rattle.grammar.specs.Attribute.{Attribute, spellAttributes}
@@ -67,7 +67,7 @@ names-size : (s : Bytes) (t : List ℕ) (n : ℕ) → length (namesOf s t n) ≡
 names-size s t zero = refl
 names-size s t (suc n) = ap suc (names-size s t n)
 
-some-size : (g : Bytes) (k : ℕ) → length g ≡ k → some g ≡ leb 1 k
+some-size : (g : Bytes) (k : ℕ) → length g ≡ k → nonEmpty g ≡ leb 1 k
 some-size [] k h = rw (← h)
 some-size (b ∷ g) k h = sym (le-leb 1 k (omega arith))
 
@@ -86,7 +86,7 @@ head-fails may s at old t {r} f g long tag q = rw q (go r f g)
 module _ (may : Bool) (s : Bytes) (at : ℕ) (old t : List ℕ) (n i : ℕ) (w : InHead may s at old t n i) where
   -- behind the glue g: an attribute, or the end
   abbrev Next : Bytes → Bytes → Out T
-  Next g = ifP (some g && leb (length (w .st .seen)) (ATTRIBUTES - 1)) (choiceP nameStart (attrP may (w .st) g) (endP may (w .st) g)) (endP may (w .st) g)
+  Next g = ifP (nonEmpty g && leb (length (w .st .seen)) (ATTRIBUTES - 1)) (choiceP nameStart (attrP may (w .st) g) (endP may (w .st) g)) (endP may (w .st) g)
 
   turned : headP may (drop at s) ≡ chained (chained (glueTok (drop i s)) Next) (onward (loopP (turnP may)))
   unfolding turnP

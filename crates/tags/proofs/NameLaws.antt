@@ -18,7 +18,7 @@ use Rattle.exact.specs.Chain.{clash}
 use Rattle.exact.specs.Byte.{pick, other}
 use Rattle.exact.specs.Token.{tokenP}
 use Rattle.exact.specs.Limit.{split}
-use Rattle.grammar.specs.Bytes.{Bytes, within, digit, every, some, among, fits}
+use Rattle.grammar.specs.Bytes.{Bytes, within, digit, every, nonEmpty, among, fits}
 use Rattle.grammar.specs.Glue.{isGlue}
 use Rattle.grammar.specs.Name.{letter, nameStart, nameByte, shaped}
 use Rattle.tags.specs.Names.{Part, Run, Fresh}
@@ -99,7 +99,7 @@ equals-bad may st g n b r h = rw (not-glue b h, not-equals b h)
 
 new-no : (earlier : List Bytes) (n : Bytes) → among earlier n ≡ true → new earlier n ≡ false
 unfolding new
-new-no earlier n h = and-false (some n) _ (rw h)
+new-no earlier n h = and-false (nonEmpty n) _ (rw h)
 
 new-yes : (earlier : List Bytes) (n : Bytes) → 0 < length n → among earlier n ≡ false → new earlier n ≡ true
 unfolding new

@@ -17,7 +17,7 @@ use Rattle.exact.specs.Exact.{Out, bad, Reader}
 use Rattle.exact.specs.Chain.{clash}
 use Rattle.exact.specs.Byte.{pick, litP}
 use Rattle.exact.specs.Token.{tokenP}
-use Rattle.grammar.specs.Bytes.{Bytes, within, digit, every, some}
+use Rattle.grammar.specs.Bytes.{Bytes, within, digit, every, nonEmpty}
 use Rattle.grammar.specs.Character.{isChar}
 use Rattle.grammar.specs.Reference.{hexDigit, worth, number}
 use Rattle.tags.specs.Says.{Says}
@@ -244,9 +244,9 @@ module _ (k : Bool) (s : Bytes) (at v i spare : ℕ) (w : Counted k s at v i spa
         let z : begunOf k (w .n ++ getD s i 0 ∷ []) ≡ false = begun-shut k (w .n) _ (digit-none k _ d is-d e) in
         bad-at (rw (z, y))
 
-    module _ (some : d ≡ 16 → ⊥) where
+    module _ (nonEmpty : d ≡ 16 → ⊥) where
       is-digit : digitOf k (getD s i 0) ≡ true
-      is-digit = digit-some k _ d is-d some .0
+      is-digit = digit-some k _ d is-d nonEmpty .0
 
       pub digits-full : spare ≡ 0 → NumSays (Bad i)
       digits-full e = let z = w .size in bad-at (tok-bad k (w .n) _ _ (begun-full k (w .n) _ (omega arith)) (digit-semi k _ is-digit))
@@ -256,7 +256,7 @@ module _ (k : Bool) (s : Bytes) (at v i spare : ℕ) (w : Counted k s at v i spa
         now-is =
             let z = w .size in
             let e : length (w .n) + suc (spare - 1) ≡ mostOf k = omega arith in
-            begun-is k (w .n) (getD s i 0) (spare - 1) (w .all) is-digit e ∙ rw (w .value, digit-some k _ d is-d some .1, is-v)
+            begun-is k (w .n) (getD s i 0) (spare - 1) (w .all) is-digit e ∙ rw (w .value, digit-some k _ d is-d nonEmpty .1, is-v)
 
         pub digits-dead : aliveOf k (spare - 1) v′ ≡ false → NumSays (Bad i)
         digits-dead e = bad-at (tok-bad k (w .n) _ _ (now-is ∙ e) (digit-semi k _ is-digit))
@@ -270,7 +270,7 @@ module _ (k : Bool) (s : Bytes) (at v i spare : ℕ) (w : Counted k s at v i spa
               n = w .n ++ getD s i 0 ∷ [];
               from = omega arith;
               size = rw length-append (omega arith);
-              value = number-append (baseOf k) 0 (w .n) (getD s i 0 ∷ []) ∙ rw (w .value, digit-some k _ d is-d some .1, is-v);
+              value = number-append (baseOf k) 0 (w .n) (getD s i 0 ∷ []) ∙ rw (w .value, digit-some k _ d is-d nonEmpty .1, is-v);
               small = alive-max (edgeOf k) (topOf k) (spare - 1) v′ (top-max k) (alive-view (edgeOf k) (topOf k) (spare - 1) v′ e);
               all = every-append (digitOf k) (w .n) (getD s i 0 ∷ []) (w .all) (rw is-digit);
               same = w .same ∙ rw (add-one, drop-cons s i 0 h, u);

@@ -17,6 +17,12 @@ use crate::values::value;
 use grammar::Limits;
 use scan::Step;
 
+/// How many numbers a tag's table of places has: four for each attribute that it may have.
+pub const PLACES: usize = 4 * Limits::ATTRIBUTES;
+
+/// Where the attributes of a tag stand: from where to where its name, and its raw value.
+pub type Places = [usize; PLACES];
+
 /// A tag behind its name: whether it is an empty one, how many attributes it has, and where it ends.
 pub struct Tag {
     pub empty: bool,
@@ -43,7 +49,7 @@ fn alike(s: &[u8], a: usize, n: usize, b: usize, m: usize) -> bool
 }
 
 // Whether the bytes from `from` up to `to` are among the names of the table's first n rows.
-fn seen(s: &[u8], table: &[usize; 128], n: usize, from: usize, to: usize) -> bool
+fn seen(s: &[u8], table: &Places, n: usize, from: usize, to: usize) -> bool
     requires { ⌜ Table (now s) (now table) n × (from ≤ to) × (to ≤ length (now s)) ⌝ }
     ensures { λ r. ⌜ r ≡ among (namesOf (now (s .entry)) (now (table .entry)) n) (take (to - from) (drop from (now (s .entry)))) ⌝ }
 {
@@ -60,7 +66,7 @@ fn seen(s: &[u8], table: &[usize; 128], n: usize, from: usize, to: usize) -> boo
 }
 
 // The places of the attribute n.
-fn put(table: &mut [usize; 128], n: usize, name: usize, past: usize, value: usize, end: usize)
+fn put(table: &mut Places, n: usize, name: usize, past: usize, value: usize, end: usize)
     requires { ⌜ n < ATTRIBUTES ⌝ }
     ensures { λ r. ⌜ now (table .exit) ≡ stored (now (table .entry)) n name past value end ⌝ }
 {
@@ -98,7 +104,7 @@ fn name_run(s: &[u8], at: usize) -> usize
 }
 
 // A name that is not in the table, up to the byte behind it. A full name that is there is dead at its last byte.
-fn fresh(s: &[u8], at: usize, table: &[usize; 128], n: usize) -> Step
+fn fresh(s: &[u8], at: usize, table: &Places, n: usize) -> Step
     requires { ⌜ Ready (now s) (now table) n at ⌝ }
     ensures { λ r. ⌜ Fresh (now (s .entry)) (namesOf (now (s .entry)) (now (table .entry)) n) at r ⌝ }
 {
@@ -148,7 +154,7 @@ fn opened(s: &[u8], at: usize) -> Step
 }
 
 // The attribute n, from its name on.
-fn attribute(s: &[u8], at: usize, table: &mut [usize; 128], n: usize) -> Step
+fn attribute(s: &[u8], at: usize, table: &mut Places, n: usize) -> Step
     requires { ⌜ Ready (now s) (now table) n at ⌝ }
     ensures { λ r. ⌜ AttributeSays (now (s .entry)) (now (table .entry)) (now (table .exit)) n at r ⌝ }
 {
@@ -219,7 +225,7 @@ fn tag_end(s: &[u8], at: usize, may: bool, n: usize) -> Tag
 }
 
 // That a table has all its numbers is known of one that is handed over by value. The copy is never read, and the compiler drops it.
-fn whole(table: [usize; 128]) -> bool
+fn whole(table: Places) -> bool
     ensures { λ r. ⌜ length table ≡ 128 ⌝ }
 {
     true
@@ -227,7 +233,7 @@ fn whole(table: [usize; 128]) -> bool
 
 /// Attributes, glue and the end of a tag. may: whether it may be an empty tag.
 /// The table's numbers 4k to 4k + 3 are where the name of the attribute k starts and ends, and where its raw value does.
-pub fn head(s: &[u8], at: usize, may: bool, table: &mut [usize; 128]) -> Tag
+pub fn head(s: &[u8], at: usize, may: bool, table: &mut Places) -> Tag
     requires { ⌜ at ≤ length (now s) ⌝ }
     ensures { λ r. ⌜ HeadSays may (now (s .entry)) at (now (table .entry)) (now (table .exit)) r ⌝ }
 {

@@ -16,13 +16,12 @@ use Rattle.value.specs.Text.{Text, asRead}
 use Rattle.value.specs.Quotes.{lacks, text-one}
 use Rattle.value.specs.Loose.{Loose, text-loose, loose-text}
 use Rattle.value.specs.Decoded.{LengthCase, LengthSays, Fits, Decoded}
-use Rattle.value.specs.Asking.{Answer, no-value, stands, no-room, decoded, TextSays, absent, outside, there}
+use Rattle.value.specs.Asking.{inScratch, Told, handed, paper, Answer, no-value, stands, no-room, decoded, TextSays, absent, outside, there}
 use Rattle.value.specs.declared.decode.Length.{Length}
 use Rattle.value.specs.declared.decode.Length.the-variants.{Is, Not}
 use Rattle.value.specs.declared.text.Span.{Span}
 use Rattle.value.specs.declared.text.Words.{Words}
 use Rattle.value.specs.declared.text.Words.the-variants.{Absent, Present}
-use Rattle.value.specs.declared.text.TextAt.{TextAt}
 use Rattle.value.specs.declared.text.TextAt.the-variants.{InMessage, InScratch, No}
 
 -- one of the quotes does not stand in w
@@ -41,10 +40,10 @@ undenied true h = refl
 undenied false h = clash h
 
 module _ (w : Bytes) (p : Span) (old : Bytes) where
-  pub answer-not : {l : Length} → l ≡ Not → LengthSays w l → Answer w p old old (No 6)
+  pub answer-not : {l : Length} → l ≡ Not → LengthSays w l → Answer w p old old (paper (No 6))
   answer-not f g = no-value (λ v x. let (k, y, e, o) = text-loose x in no-length f g k y) refl refl
 
-  pub answer-unquoted : {q : Bool} → q ≡ quotable w → not q ≡ true → Answer w p old old (No 6)
+  pub answer-unquoted : {q : Bool} → q ≡ quotable w → not q ≡ true → Answer w p old old (paper (No 6))
   answer-unquoted {q} h k = no-value (λ v x. let (m, y, e, o) = text-loose x in clash (sym (either o) ∙ sym h ∙ not-true q k)) refl refl
     where
       either : (lacks (code "\"") w ≡ true) ⊎ (lacks (code "'") w ≡ true) → quotable w ≡ true
@@ -55,32 +54,32 @@ module _ (w : Bytes) (p : Span) (old : Bytes) where
     quoted : {l : List Item} → Loose w l → Text w (readValue l)
     quoted x = loose-text x (or-cases (lacks 34 w) (lacks 39 w) (sym h ∙ undenied q k))
 
-    pub answer-stands : r ≡ true → {n : ℕ} → (l : List Item) × Loose w l × (n ≡ length (readValue l)) → Answer w p old old (InMessage p)
+    pub answer-stands : r ≡ true → {n : ℕ} → (l : List Item) × Loose w l × (n ≡ length (readValue l)) → Answer w p old old (paper (InMessage p))
     answer-stands b (l, x, e) = stands (readValue l) (quoted x) (sym a ∙ b) refl refl
 
-    pub answer-short : r ≡ false → {n : ℕ} → (l : List Item) × Loose w l × (n ≡ length (readValue l)) → length old < n → Answer w p old old (No 7)
+    pub answer-short : r ≡ false → {n : ℕ} → (l : List Item) × Loose w l × (n ≡ length (readValue l)) → length old < n → Answer w p old old (paper (No 7))
     answer-short b (l, x, e) s = no-room (readValue l) (quoted x) (sym a ∙ b) (omega arith) refl refl
 
-    pub answer-decoded : r ≡ false → {n : ℕ} → (l : List Item) × Loose w l × (n ≡ length (readValue l)) → n ≤ length old → {new : Bytes} {m : ℕ} → Decoded w old new m → Answer w p old new (InScratch m)
+    pub answer-decoded : r ≡ false → {n : ℕ} → (l : List Item) × Loose w l × (n ≡ length (readValue l)) → n ≤ length old → {new : Bytes} {m : ℕ} → Decoded w old new m → Answer w p old new (paper (InScratch m))
     answer-decoded b (l, x, e) s {new} {m} d =
         let v = readValue (d .items) in
         let t = quoted (d .loose) in
         let o = ap length (text-one (quoted x) t) in
         let c = d .count in
-        decoded v t (sym a ∙ b) (omega arith) (ap InScratch c) (d .bytes ∙ ap (λ (j : ℕ). v ++ drop j old) c)
+        decoded v t (sym a ∙ b) (omega arith) (ap (λ (n : ℕ). handed (inScratch n)) c) (d .bytes ∙ ap (λ (j : ℕ). v ++ drop j old) c)
 
 pub answer-fits : {w : Bytes} {n room : ℕ} → (l : List Item) × Loose w l × (n ≡ length (readValue l)) → n ≤ room → Fits w room
 answer-fits (l, x, e) h = record { items = l; loose = x; fits = omega arith }
 
 -- of the value
 module _ (msg : Bytes) (old : Bytes) where
-  pub text-absent : {t : Words} → t ≡ Absent → TextSays msg t old old (No 4)
+  pub text-absent : {t : Words} → t ≡ Absent → TextSays msg t old old (paper (No 4))
   text-absent e = absent e refl refl
 
-  pub text-outside : {t : Words} (p : Span) → t ≡ Present p → length msg < p .start + p .len → TextSays msg t old old (No 6)
+  pub text-outside : {t : Words} (p : Span) → t ≡ Present p → length msg < p .start + p .len → TextSays msg t old old (paper (No 6))
   text-outside p e h = outside p e h refl refl
 
-  pub text-there : {t : Words} (p : Span) {new : Bytes} {r : TextAt} → t ≡ Present p → p .start + p .len ≤ length msg → Answer (take (p .start + p .len - p .start) (drop (p .start) msg)) p old new r → TextSays msg t old new r
+  pub text-there : {t : Words} (p : Span) {new : Bytes} {r : Told} → t ≡ Present p → p .start + p .len ≤ length msg → Answer (take (p .start + p .len - p .start) (drop (p .start) msg)) p old new r → TextSays msg t old new r
   text-there p {new} {r} e h a =
       let same : p .start + p .len - p .start ≡ p .len = omega arith in
       there p e h (subst (λ (n : ℕ). Answer (take n (drop (p .start) msg)) p old new r) same a)

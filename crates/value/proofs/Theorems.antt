@@ -1,4 +1,4 @@
--- No second answer meets a promise: of a text asked for in one call, of how long a value reads, and of the numbers and the id of a raw value.
+-- No second answer meets a promise: of a text asked for in one call, of the number that is said of it, of how long a value reads, and of the numbers and the id of a raw value.
 use mathlib.Core.Path.{_≡_, refl, sym, ap, subst, _∙_}
 use mathlib.Core.List.{List, [], _∷_, _++_}
 use mathlib.Core.Bool.{Bool}
@@ -37,6 +37,10 @@ ask-only {a} {m} {t} {b} {old} {k} {k′} {r} {r′} x y =
     let s = decode-only (x .says) (y .says) in
     let p : Lies (partAt a m b (x .scratch) (x .at)) r′ = subst (λ (z : TextAt). Lies (partAt a m b (x .scratch) z) r′) (sym (s .answer)) (subst (λ (z : Bytes). Lies (partAt a m b z (y .at)) r′) (sym (s .scratch)) (y .part)) in
     record { refusal = x .refusal ∙ ap refusalOf (s .answer) ∙ sym (y .refusal); part = part-only (x .part) p }
+
+-- of `refusal_of`
+pub refusal-of-only : (at : TextAt) (k q : ℕ) → k ≡ refusalOf at → q ≡ refusalOf at → k ≡ q
+refusal-of-only at k q x y = x ∙ sym y
 
 -- the items of bytes are one
 no-items : {i : Item} (k : List Item) → GoodItem BRACKET i → [] ≡ spellItem i ++ spellValue k → ⊥

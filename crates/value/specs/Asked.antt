@@ -4,22 +4,19 @@ use mathlib.Core.List.{List}
 use Prim.Native.Nat.{ℕ}
 use denote.Ref.{RefT}
 use Rattle.grammar.specs.Bytes.{Bytes}
-use Rattle.value.specs.Asking.{TextSays}
+use Rattle.value.specs.Asking.{paper, TextSays}
 use Rattle.value.specs.Parts.{partAt, Lies}
 use Rattle.value.specs.declared.text.Words.{Words}
 use Rattle.value.specs.declared.text.TextAt.{TextAt}
-use Rattle.value.specs.declared.text.TextAt.the-variants.{InMessage, InScratch, No}
 
 -- the number that is said of a text: 0, or why there is none
 unfoldable pub refusalOf : TextAt → ℕ
-refusalOf (InMessage p) = 0
-refusalOf (InScratch n) = 0
-refusalOf (No k) = k
+refusalOf at = paper at .number
 
 -- a, m: the address and the bytes of the message; b, old: of the scratch; k: the number said; r: the part handed out
 pub record Asked (a : ℕ × ℕ) (m : Bytes) (t : Words) (b : ℕ × ℕ) (old : Bytes) (k : ℕ) (r : RefT (List ℕ)) : Type 0 where
   pub at : TextAt
   pub scratch : Bytes
-  pub says : TextSays m t old scratch at
+  pub says : TextSays m t old scratch (paper at)
   pub refusal : k ≡ refusalOf at
   pub part : Lies (partAt a m b scratch at) r

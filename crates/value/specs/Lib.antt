@@ -13,3 +13,4 @@ pub mod Only
 pub mod Asked
 pub mod Numbers
 pub mod Ids
+pub mod Examples

@@ -11,7 +11,7 @@ use Rattle.model.specs.Tests.{and-right}
 use Rattle.model.specs.Values.{amp-first}
 use Rattle.exact.specs.Byte.{eqb-true}
 use Rattle.exact.specs.Chain.{clash}
-use Rattle.grammar.specs.Bytes.{Bytes, text, some}
+use Rattle.grammar.specs.Bytes.{Bytes, text, nonEmpty}
 use Rattle.grammar.specs.Character.{utf8}
 use Rattle.grammar.specs.Reference.{readReference}
 use Rattle.grammar.specs.Value.{Item, raw, ref, spellItem, spellValue, GoodItem, good-raw, good-ref, GoodValue, good-last, good-item, feeds, readItem, readValue}
@@ -43,15 +43,15 @@ first-reads (raw c) l = at (eqb (code "\r") c && feeds l) refl (eqb (code "\t") 
     at false e false = omega (arith, utf8-size c .0, length-append (utf8 c) (readValue l))
 first-reads (ref r) l = omega (arith, utf8-size (readReference r) .0, length-append (utf8 (readReference r)) (readValue l))
 
-some-long : (w : Bytes) → 1 ≤ length w → some w ≡ true
+some-long : (w : Bytes) → 1 ≤ length w → nonEmpty w ≡ true
 some-long [] h = absurd (omega arith)
 some-long (b ∷ w) h = refl
 
-value-some : {q : ℕ} {l : List Item} → GoodValue q l → some (spellValue l) ≡ some (readValue l)
+value-some : {q : ℕ} {l : List Item} → GoodValue q l → nonEmpty (spellValue l) ≡ nonEmpty (readValue l)
 unfolding readValue
 value-some good-last = refl
 value-some (good-item {i} {l} g r) =
     some-long (spellItem i ++ spellValue l) (omega (arith, some-bytes g, length-append (spellItem i) (spellValue l))) ∙ sym (some-long (readItem i (feeds l) ++ readValue l) (first-reads i l))
 
-pub reads-some : {w : Bytes} {l : List Item} → Loose w l → some w ≡ some (readValue l)
-reads-some x = ap some (x .spelt) ∙ value-some (x .good)
+pub reads-some : {w : Bytes} {l : List Item} → Loose w l → nonEmpty w ≡ nonEmpty (readValue l)
+reads-some x = ap nonEmpty (x .spelt) ∙ value-some (x .good)

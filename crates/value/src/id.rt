@@ -4,7 +4,6 @@ ghost use lib.ListN.{length};
 ghost use Rattle.value.specs.Ids.{noId, idRead, IdReads};
 use crate::decode::decode;
 use crate::numbers::guid_walk;
-use crate::tests::is_plain;
 
 /// An id; or none, and zeros.
 pub struct Guid {
@@ -34,19 +33,6 @@ fn copied(v: &[u8]) -> [u8; 36]
     bytes
 }
 
-// The id that the bytes v are.
-fn id_of(v: &[u8]) -> Guid
-    ensures { λ r. ⌜ r ≡ idRead (now (v .entry)) ⌝ }
-{
-    if number::is_guid(v) {
-        return Guid {
-            there: true,
-            bytes: copied(v),
-        };
-    }
-    no_id()
-}
-
 // The id, character by character.
 fn id_walk(raw: &[u8]) -> Guid
     ensures { λ r. ⌜ IdReads (now (raw .entry)) r ⌝ }
@@ -63,8 +49,11 @@ fn id_walk(raw: &[u8]) -> Guid
 pub fn id_at(raw: &[u8]) -> Guid
     ensures { λ r. ⌜ IdReads (now (raw .entry)) r ⌝ }
 {
-    if is_plain(raw) {
-        return id_of(raw);
+    if number::is_guid(raw) {
+        return Guid {
+            there: true,
+            bytes: copied(raw),
+        };
     }
     id_walk(raw)
 }

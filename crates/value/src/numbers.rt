@@ -135,12 +135,12 @@ pub fn guid_walk(raw: &[u8]) -> bool
     s.end()
 }
 
-/// Whether it is a GUID, as the value reads.
+/// Whether it is a GUID, as the value reads. A GUID that stands in its own letters reads as itself.
 pub fn guid_at(raw: &[u8]) -> bool
     ensures { λ r. ⌜ GuidReads (now (raw .entry)) r ⌝ }
 {
-    if is_plain(raw) {
-        return number::is_guid(raw);
+    if number::is_guid(raw) {
+        return true;
     }
     guid_walk(raw)
 }

@@ -1,5 +1,5 @@
 // Asking for a text: where it stands, decoded into the scratch buffer if it must be.
-ghost use Rattle.value.specs.Asking.{Answer, TextSays};
+ghost use Rattle.value.specs.Asking.{paper, Answer, TextSays};
 use crate::decode::Length;
 use crate::decode::decode;
 use crate::decode::text_len;
@@ -27,7 +27,7 @@ pub enum TextAt {
 
 // The text of the bytes w, which stand at p.
 fn text_of(w: &[u8], p: Span, scratch: &mut [u8]) -> TextAt
-    ensures { λ r. ⌜ Answer (now (w .entry)) p (now (scratch .entry)) (now (scratch .exit)) r ⌝ }
+    ensures { λ r. ⌜ Answer (now (w .entry)) p (now (scratch .entry)) (now (scratch .exit)) (paper r) ⌝ }
 {
     let l = text_len(w);
     let Length::Is(n) = l else {
@@ -48,7 +48,7 @@ fn text_of(w: &[u8], p: Span, scratch: &mut [u8]) -> TextAt
 
 /// Where the text of the value t of the message is; what must be decoded is written first in `scratch`.
 pub fn text_decode(msg: &[u8], t: Words, scratch: &mut [u8]) -> TextAt
-    ensures { λ r. ⌜ TextSays (now (msg .entry)) t (now (scratch .entry)) (now (scratch .exit)) r ⌝ }
+    ensures { λ r. ⌜ TextSays (now (msg .entry)) t (now (scratch .entry)) (now (scratch .exit)) (paper r) ⌝ }
 {
     let Words::Present(p) = t else {
         return TextAt::No(4);

@@ -11,12 +11,13 @@ use borrow.Author.Tests.{eqb-true, ne-eqb, lt-ltb, le-leb}
 use Rattle.exact.specs.Chain.{clash}
 use Rattle.grammar.specs.Bytes.{within, every}
 use Rattle.model.specs.Tests.{every-append}
-use Rattle.number.specs.Bytes.{Bytes, digit, zeroDigit, figure, some, all, dropBack, keepBefore, valueFrom, value, before, behind}
+use Rattle.number.specs.Bytes.{Bytes, digit, zeroDigit, figure, nonEmpty, all, dropBack, keepBefore, valueFrom, value, before, behind}
 use Rattle.number.specs.Positive.{BEFORE, BEHIND, number, written, short, millionths, above, decimal, unsigned, parted, numberOf}
 use Rattle.number.proofs.Powers.{shift, few}
 use Rattle.number.proofs.Tests.{cases, and-left, and-right, digit-low}
-use Rattle.writing.specs.Written.{lastDigit, printInt, places, behindPoint, printPart, printDecimal}
-use Rattle.writing.proofs.PrintLaws.{int-digital, int-short, length-places, places-digits, places-value}
+use Rattle.printing.specs.Digits.{lastDigit, printInt, places}
+use Rattle.writing.specs.Written.{behindPoint, printPart, printDecimal}
+use Rattle.printing.proofs.PrintLaws.{int-digital, int-short, length-places, places-digits, places-value}
 use Rattle.writing.proofs.MarkLaws.{mark, digits-marks, marks-trim}
 
 -- digits without the zeros at their back
@@ -156,8 +157,8 @@ unfolding behindPoint
 point-short [] = omega arith
 point-short (b ∷ g) = omega arith
 
-some-left : (f g : Bytes) → some f ≡ true → some (f ++ g) ≡ true
-unfolding some
+some-left : (f g : Bytes) → nonEmpty f ≡ true → nonEmpty (f ++ g) ≡ true
+unfolding nonEmpty
 some-left [] g h = clash (sym h)
 some-left (b ∷ f) g h = refl
 

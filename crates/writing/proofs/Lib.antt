@@ -1,6 +1,4 @@
-pub mod PutLaws
 pub mod EscapeLaws
-pub mod PrintLaws
 pub mod MarkLaws
 pub mod DecimalLaws
 pub mod TextLaws

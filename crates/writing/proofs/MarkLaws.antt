@@ -15,7 +15,7 @@ use Rattle.grammar.specs.Bytes.{Bytes, within, every}
 use Rattle.grammar.specs.Character.{isChar, utf8}
 use Rattle.model.specs.Characters.{char-low}
 use Rattle.model.specs.Tests.{or-cases, or-left, or-right, in-range, range-in, and-both, and-left, and-right}
-use Rattle.number.specs.Bytes.{and, blank, digit, hex, some, all, dropFront, dropBack, keepBefore, trim, pointed, before, behind, value}
+use Rattle.number.specs.Bytes.{and, blank, digit, hex, nonEmpty, all, dropFront, dropBack, keepBefore, trim, pointed, before, behind, value}
 use Rattle.number.specs.Guid.{Place, hexPlace, hyphenPlace, places, may, filled, guidOf}
 use Rattle.number.specs.Version.{oneToThree, versionOf}
 use Rattle.number.specs.Whole.{int, sized, signed, intOf}
@@ -128,8 +128,8 @@ version-marks v h =
     digits s h = bits.and-left (all digit s) (and (leb 1 (length s)) (leb (length s) 3)) h
 
 -- digits alone are an Int
-pub digits-int : (s : Bytes) → all digit s ≡ true → some s ≡ true → intOf s ≡ int false (value s)
-unfolding intOf signed sized some all
+pub digits-int : (s : Bytes) → all digit s ≡ true → nonEmpty s ≡ true → intOf s ≡ int false (value s)
+unfolding intOf signed sized nonEmpty all
 digits-int [] h k = clash (sym k)
 digits-int (b ∷ s) h k =
     let z = digit-low b (bits.and-left (digit b) (all digit s) h) in

@@ -1,5 +1,5 @@
 -- The theorems of the crate, for a reader to find: what is written reads back, how long it gets, and that no second answer meets a promise.
-use mathlib.Core.Path.{_≡_, sym, subst, _∙_}
+use mathlib.Core.Path.{_≡_, subst, _∙_}
 use mathlib.Core.Bool.{Bool, true, false}
 use Prim.Native.Nat.{ℕ, _*_, _≤_}
 use native.Mathlib.Omega.{arith}
@@ -12,13 +12,13 @@ use Rattle.number.specs.Positive.{number, numberOf}
 use Rattle.number.specs.Guid.{guidOf}
 use Rattle.number.specs.Version.{versionOf}
 use Rattle.value.specs.Text.{Text}
-use Rattle.writing.specs.Written.{escape, printInt, places, behindPoint, printDecimal}
+use Rattle.printing.specs.Digits.{printInt, places}
+use Rattle.printing.proofs.PrintLaws.{print-small, print-more, int-digital, int-short}
+use Rattle.writing.specs.Written.{escape, behindPoint, printDecimal}
 use Rattle.writing.specs.Characters.{IsText, TextSays}
-use Rattle.writing.specs.Put.{Wrote}
 use Rattle.writing.specs.Quoted.{InQuotes, AsIs}
 use Rattle.writing.specs.Decided.{isText}
 use Rattle.writing.proofs.EscapeLaws as escapes
-use Rattle.writing.proofs.PrintLaws.{print-small, print-more, int-digital, int-short}
 use Rattle.writing.proofs.MarkLaws.{digits-marks, marks-as-is, guid-marks, version-marks, digits-int}
 use Rattle.writing.proofs.DecimalLaws as decimals
 use Rattle.writing.proofs.DecidedLaws as decided
@@ -74,9 +74,6 @@ int-long n h = int-short 4 n (omega arith)
 pub decimal-long : (x : ℕ) → x ≤ 9999999999999 → length (printDecimal x) ≤ 14
 decimal-long x h = decimals.decimal-short x h
 
--- no second result meets a promise
-pub wrote-only : {old m new new′ : Bytes} {at r r′ : ℕ} → Wrote old at m new r → Wrote old at m new′ r′ → (new ≡ new′) × (r ≡ r′)
-wrote-only x y = (x .bytes ∙ sym (y .bytes), x .next ∙ sym (y .next))
-
+-- no second result meets the promise of `is_text`
 pub text-only : {v : Bytes} {r q : Bool} → TextSays v r → TextSays v q → r ≡ q
 text-only {v} {r} {q} x y = same-test r q (λ h. y .complete (x .sound h)) (λ h. x .complete (y .sound h))

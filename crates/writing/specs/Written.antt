@@ -1,10 +1,11 @@
--- The bytes that the writer puts down for a text, for an Int and for a decimal.
+-- The bytes that the writer puts down for a text and for a decimal. An Int is `printInt` of `printing`.
 use mathlib.Core.List.{[], _∷_, _++_}
 use mathlib.Core.Bool.{cond}
-use Prim.Native.Nat.{ℕ, zero, suc, _+_, _/_, _%_, _^_}
+use Prim.Native.Nat.{ℕ, _/_, _%_, _^_}
 use Prim.Native.Char.{code}
-use lib.Dec.{eqb, ltb}
+use lib.Dec.{eqb}
 use Rattle.grammar.specs.Bytes.{Bytes, text}
+use Rattle.printing.specs.Digits.{printInt, places}
 use Rattle.number.specs.Bytes.{zeroDigit, dropBack}
 use Rattle.number.specs.Positive.{BEHIND}
 
@@ -24,24 +25,6 @@ escapeByte b =
 unfoldable pub escape : Bytes → Bytes
 escape [] = []
 escape (b ∷ s) = escapeByte b ++ escape s
-
--- the last digit of a number
-abbrev pub lastDigit : ℕ → ℕ
-lastDigit n = code "0" + n % 10
-
--- the digits of n, if there are no more than k
-unfoldable pub digitsOf : ℕ → ℕ → Bytes
-digitsOf zero n = []
-digitsOf (suc k) n = cond (ltb n 10) (lastDigit n ∷ []) (digitsOf k (n / 10) ++ lastDigit n ∷ [])
-
--- "Ints without sign or leading zero"
-unfoldable pub printInt : ℕ → Bytes
-printInt n = digitsOf (suc n) n
-
--- the last k digits of n
-unfoldable pub places : ℕ → ℕ → Bytes
-places zero n = []
-places (suc k) n = places k (n / 10) ++ lastDigit n ∷ []
 
 -- digits behind a point, and no point without a digit
 unfoldable pub behindPoint : Bytes → Bytes

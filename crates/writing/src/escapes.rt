@@ -2,10 +2,10 @@
 ghost use mathlib.Core.Path.{_≡_};
 ghost use mathlib.Core.List.{[], _∷_};
 ghost use mathlib.Core.Bool.{true};
-ghost use Rattle.writing.specs.Put.{Wrote, Countable};
+ghost use Rattle.printing.specs.Put.{Wrote, Countable};
 ghost use Rattle.writing.specs.Written.{escapeByte, escape};
-use crate::bytes::put;
-use crate::bytes::put_byte;
+use printing::put;
+use printing::put_byte;
 
 // Whether b is written as it is.
 fn stays(b: u8) -> bool

@@ -1,37 +1,35 @@
--- The window lies in its buffer at each turn.
-use mathlib.Core.Path.{_≡_}
+-- The invariant: turns have led to where the loop is.
+use mathlib.Core.Path.{_≡_, refl, sym}
+use Prim.Native.Nat.{_-_}
+use native.Mathlib.Omega.{arith}
 use lib.ListN.{length}
 use borrow.Author.Needs.{needs}
-use Rattle.listing.specs.Held.{Held}
+use Rattle.listing.proofs.ListLaws.{Going, going-start, going-on, going-ends, going-out}
+use Rattle.exact.specs.Chain.{clash}
+use Rattle.listing.proofs.LineLaws.{left-room}
 use Rattle.listing.proofs.list.Statement.{statement}
 use Rattle.listing.proofs.list.Tie as tie
-use Rattle.listing.proofs.list.Reads as reads
-use Rattle.listing.proofs.list.Lts as lts
-use Rattle.listing.proofs.printing.flush.Reads as flush-reads
-use Rattle.listing.proofs.printing.made_room.Reads as made-room-reads
-use Rattle.listing.proofs.turn.Reads as turn-reads
-use Rattle.listing.proofs.window.topped_up.Reads as topped-up-reads
 
 abbrev Inv-loop : tie.InvT-loop
-Inv-loop buf₀ out₀ w₀ waiting₀ turns₀ buf out w waiting turns = (length buf ≡ length buf₀) × (length out ≡ length out₀) × Held w (length buf)
+Inv-loop buf₀ out₀ w₀ waiting₀ turns₀ buf out w waiting turns = (length buf ≡ length buf₀) × (length out ≡ length out₀) × Going turns w buf waiting out
 
 abbrev μ-loop : tie.MeasureT-loop
 μ-loop buf₀ out₀ w₀ waiting₀ turns₀ buf out w waiting turns = turns
 
 loop-holds : tie.Need-loop-holds Inv-loop μ-loop
-loop-holds c = search needs
+loop-holds c = (refl, refl, going-start _ _)
 
 topped-up-requires : tie.Need-topped-up-requires Inv-loop μ-loop
-topped-up-requires c κs = search needs
+topped-up-requires c κs = (c .before .before .loop .inv .2 .held, omega arith)
 
 made-room-requires : tie.Need-made-room-requires Inv-loop μ-loop
-made-room-requires c κs = search needs
+made-room-requires c κs = (c .before .before .before .before .before .before .loop .inv .2 .waits, omega arith)
 
 turn-requires : tie.Need-turn-requires Inv-loop μ-loop
-turn-requires c κs = search needs
+turn-requires c κs = (c .before .before .before .before .before .before .topped-up .ensures .held, left-room (length (c .before .before .before .before .before .before .before .before .before .loop .out)) (c .before .before .before .before .before .before .before .before .before .loop .waiting) (c .before .before .made-room .ensures) (omega arith))
 
 flush-requires : tie.Need-flush-requires Inv-loop μ-loop
-flush-requires c κs = search needs
+flush-requires c κs = c .before .before .before .before .before .turn .ensures .printed .inside
 
 same-length : tie.Need-same-length Inv-loop μ-loop
 same-length c = search needs
@@ -40,7 +38,7 @@ same-length-2 : tie.Need-same-length-2 Inv-loop μ-loop
 same-length-2 c = search needs
 
 returns : tie.Need-returns Inv-loop μ-loop
-returns c = search needs
+returns c = (λ _. going-ends (c .before .before .before .before .before .before .before .before .before .before .before .before .before .before .before .before .loop .inv .2) (c .before .before .before .before .before .before .before .before .before .before .before .before .before .topped-up .ensures) (c .before .before .before .before .before .before .before .before .before .made-room .ensures) (c .before .before .before .before .before .before .turn .ensures) (c .before .before .if1 .taken), λ e. clash e)
 
 sub-turns : tie.Need-sub-turns Inv-loop μ-loop
 sub-turns c = search needs
@@ -49,7 +47,7 @@ loop-less : tie.Need-loop-less Inv-loop μ-loop
 loop-less c = search needs
 
 loop-again : tie.Need-loop-again Inv-loop μ-loop
-loop-again c = search needs
+loop-again c = (search needs, search needs, going-on (c .before .before .before .before .before .before .before .before .before .before .before .before .before .before .loop .inv .2) (c .before .before .before .before .before .before .before .before .before .before .before .topped-up .ensures) (c .before .before .before .before .before .before .before .made-room .ensures) (c .before .before .before .before .turn .ensures) (c .before .before .before .before .before .before .before .before .before .before .before .before .before .before .loop .turns - 1) (omega (arith, c .before .before .before .before .before .before .before .before .before .before .before .before .before .loop-test .taken)) (c .if1 .left))
 
 same-length-3 : tie.Need-same-length-3 Inv-loop μ-loop
 same-length-3 c = search needs
@@ -58,7 +56,7 @@ same-length-4 : tie.Need-same-length-4 Inv-loop μ-loop
 same-length-4 c = search needs
 
 returns-2 : tie.Need-returns-2 Inv-loop μ-loop
-returns-2 c = search needs
+returns-2 c = (λ e. clash (sym e), λ _. going-out (c .before .loop .inv .2) (omega (arith, c .loop-test .left)))
 
 pub list-spec : {M : Type 1} → statement M
 list-spec =

@@ -1,6 +1,5 @@
 -- `child` meets its contract: filler and an element, or none, one law for each return.
 use mathlib.Core.Path.{refl}
-use Rattle.grammar.specs.Filler.{below}
 use native.Mathlib.Omega.{arith}
 use Rattle.reader.proofs.elements.Laws.{known-filler}
 use Rattle.reader.proofs.Children.{child-out, child-bare, child-none, child-found}
@@ -30,7 +29,7 @@ sub-child-at : tie.Need-sub-child-at
 sub-child-at c = search needs
 
 child-at-requires : tie.Need-child-at-requires
-child-at-requires c κs = let g = known-filler (c .before .before .r .given .1) (c .before .before .before .before .filler-lt .ensures) below in omega arith
+child-at-requires c κs = let g = known-filler (c .before .before .r .given .1) (c .before .before .before .before .filler-lt .ensures) in omega arith
 
 enum-known-r-2 : tie.Need-enum-known-r-2
 enum-known-r-2 c = search needs
@@ -39,10 +38,10 @@ no-child-requires-3 : tie.Need-no-child-requires-3
 no-child-requires-3 c κs = search needs
 
 returns-3 : tie.Need-returns-3
-returns-3 c = child-none _ _ _ _ _ _ (known-filler (c .before .before .before .before .before .r .given .1) (c .before .before .before .before .before .before .before .filler-lt .ensures) below) _ (c .before .before .child-at .ensures) (c .before .match2 .keys2) (c .no-child3 .ensures)
+returns-3 c = child-none _ _ _ _ _ _ (known-filler (c .before .before .before .before .before .r .given .1) (c .before .before .before .before .before .before .before .filler-lt .ensures)) _ (c .before .before .child-at .ensures) (c .before .match2 .keys2) (c .no-child3 .ensures)
 
 returns-4 : tie.Need-returns-4
-returns-4 c = child-found _ _ _ _ _ _ (known-filler (c .before .before .before .before .before .before .r .given .1) (c .before .before .before .before .before .before .before .before .filler-lt .ensures) below) _ (c .before .before .before .child-at .ensures) (c .before .r2 .given .1) refl
+returns-4 c = child-found _ _ _ _ _ _ (known-filler (c .before .before .before .before .before .before .r .given .1) (c .before .before .before .before .before .before .before .before .filler-lt .ensures)) _ (c .before .before .before .child-at .ensures) (c .before .r2 .given .1) refl
 
 pub child-spec : {M : Type 1} → statement M
 child-spec =

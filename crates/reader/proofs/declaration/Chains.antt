@@ -12,10 +12,10 @@ use Rattle.exact.specs.Exact.{Out, done, more, bad, Reader}
 use Rattle.exact.specs.Chain.{retP, bindP, ifP}
 use Rattle.exact.specs.Byte.{pick, onP, litP, choiceP}
 use Rattle.exact.specs.Token.{tokenP}
-use Rattle.grammar.specs.Bytes.{Bytes, text, either, every, some, same}
+use Rattle.grammar.specs.Bytes.{Bytes, text, either, every, nonEmpty, same}
 use Rattle.grammar.specs.Glue.{isGlue}
 use Rattle.grammar.specs.Value.{isQuote}
-use Rattle.grammar.specs.Declaration.{Setting, Optional, absent, present, Declaration, isVersion, isEncoding}
+use Rattle.grammar.specs.Declaration.{Setting, Optional, absent, present, Declaration, versionBytes, encodingBytes}
 use Rattle.reader.specs.Declaration.{pairs, pairsP, Opening, mkOpening, quoteP, openP}
 
 data Alike : List (ℕ → Bool) → List (ℕ → Bool) → Type 0 where
@@ -36,11 +36,11 @@ twice x b = go (eqb x b)
 
 pub version-pairs : (u : Bytes) → versionP u ≡ pairsP (49 ∷ 46 ∷ 48 ∷ []) (49 ∷ 46 ∷ 49 ∷ []) u
 unfolding versionP pairsP
-version-pairs u = let a : Alike isVersion (pairs (49 ∷ 46 ∷ 48 ∷ []) (49 ∷ 46 ∷ 49 ∷ [])) = one (twice 49) (one (twice 46) (one (λ b. refl) none)) in fits-ext a u
+version-pairs u = let a : Alike versionBytes (pairs (49 ∷ 46 ∷ 48 ∷ []) (49 ∷ 46 ∷ 49 ∷ [])) = one (twice 49) (one (twice 46) (one (λ b. refl) none)) in fits-ext a u
 
 pub encoding-pairs : (u : Bytes) → encodingP u ≡ pairsP (85 ∷ 84 ∷ 70 ∷ 45 ∷ 56 ∷ []) (117 ∷ 116 ∷ 102 ∷ 45 ∷ 56 ∷ []) u
 unfolding encodingP pairsP
-encoding-pairs u = let a : Alike isEncoding (pairs (85 ∷ 84 ∷ 70 ∷ 45 ∷ 56 ∷ []) (117 ∷ 116 ∷ 102 ∷ 45 ∷ 56 ∷ [])) = one (λ b. refl) (one (λ b. refl) (one (λ b. refl) (one (twice 45) (one (twice 56) none)))) in fits-ext a u
+encoding-pairs u = let a : Alike encodingBytes (pairs (85 ∷ 84 ∷ 70 ∷ 45 ∷ 56 ∷ []) (117 ∷ 116 ∷ 102 ∷ 45 ∷ 56 ∷ [])) = one (λ b. refl) (one (λ b. refl) (one (λ b. refl) (one (twice 45) (one (twice 56) none)))) in fits-ext a u
 
 pub lit-word : {A : Type 0} (cs : Bytes) (a : A) (t : Bytes) → litP cs a t ≡ chained (wordP cs t) (λ _ u. done a u)
 unfolding wordP chained
@@ -92,16 +92,16 @@ pub standalone-or-end-no : (g : Bytes) (f : Optional → Bytes → Declaration) 
 unfolding standaloneOrEndP
 standalone-or-end-no g f b t h = rw h (lit-word (text "?>") (f absent g) (b ∷ t))
 
-pub behind-encoding-bind : (f : Optional → Bytes → Declaration) (t : Bytes) → behindEncodingP f t ≡ chained (glueTok t) (λ g u. ifP (some g) (standaloneOrEndP g f) (litP (text "?>") (f absent g)) u)
+pub behind-encoding-bind : (f : Optional → Bytes → Declaration) (t : Bytes) → behindEncodingP f t ≡ chained (glueTok t) (λ g u. ifP (nonEmpty g) (standaloneOrEndP g f) (litP (text "?>") (f absent g)) u)
 unfolding behindEncodingP
-behind-encoding-bind f t = glue-bind (λ g. ifP (some g) (standaloneOrEndP g f) (litP (text "?>") (f absent g))) t
+behind-encoding-bind f t = glue-bind (λ g. ifP (nonEmpty g) (standaloneOrEndP g f) (litP (text "?>") (f absent g))) t
 
 unfoldable pub encodingOrEndP : Bytes → (Optional → Optional → Bytes → Declaration) → Reader Declaration
 encodingOrEndP g f = choiceP (eqb 101) (bindP (settingP (text "encoding") encodingP g) (λ p. behindEncodingP (f (present p)))) (standaloneOrEndP g (f absent))
 
-pub behind-version-bind : (f : Optional → Optional → Bytes → Declaration) (t : Bytes) → behindVersionP f t ≡ chained (glueTok t) (λ g u. ifP (some g) (encodingOrEndP g f) (litP (text "?>") (f absent absent g)) u)
+pub behind-version-bind : (f : Optional → Optional → Bytes → Declaration) (t : Bytes) → behindVersionP f t ≡ chained (glueTok t) (λ g u. ifP (nonEmpty g) (encodingOrEndP g f) (litP (text "?>") (f absent absent g)) u)
 unfolding behindVersionP encodingOrEndP
-behind-version-bind f t = glue-bind (λ g. ifP (some g) (choiceP (eqb 101) (bindP (settingP (text "encoding") encodingP g) (λ p. behindEncodingP (f (present p)))) (standaloneOrEndP g (f absent))) (litP (text "?>") (f absent absent g))) t
+behind-version-bind f t = glue-bind (λ g. ifP (nonEmpty g) (choiceP (eqb 101) (bindP (settingP (text "encoding") encodingP g) (λ p. behindEncodingP (f (present p)))) (standaloneOrEndP g (f absent))) (litP (text "?>") (f absent absent g))) t
 
 pub encoding-or-end-yes : (g : Bytes) (f : Optional → Optional → Bytes → Declaration) (b : ℕ) (t : Bytes) → eqb 101 b ≡ true → encodingOrEndP g f (b ∷ t) ≡ chained (settingP (text "encoding") encodingP g (b ∷ t)) (λ p u. behindEncodingP (f (present p)) u)
 unfolding encodingOrEndP
@@ -114,7 +114,7 @@ encoding-or-end-no g f b t h = rw h
 -- glue of at least a byte
 module _ {A : Type 0} (q : Bytes → Reader A) where
   abbrev Q : Bytes → Reader A
-  Q g u = pick (some g) (q g u) (bad u)
+  Q g u = pick (nonEmpty g) (q g u) (bad u)
 
   shift : (b : ℕ) → isGlue b ≡ true → (t g : Bytes) → tokenP (every isGlue) always Q (b ∷ g) t ≡ tokenP (every isGlue) always (λ g. q (b ∷ g)) g t
   shift b h [] g = refl
@@ -125,7 +125,7 @@ module _ {A : Type 0} (q : Bytes → Reader A) where
       go true i = i
       go false i = refl
 
-  pub spaced-bind : (t : Bytes) → onP isGlue (λ b. glueP (λ g. q (b ∷ g))) t ≡ chained (glueTok t) (λ g u. pick (some g) (q g u) (bad u))
+  pub spaced-bind : (t : Bytes) → onP isGlue (λ b. glueP (λ g. q (b ∷ g))) t ≡ chained (glueTok t) (λ g u. pick (nonEmpty g) (q g u) (bad u))
   spaced-bind t = same t ∙ glue-bind Q t
     where
       at : (b : ℕ) (t : Bytes) (z : Bool) → isGlue b ≡ z → onP isGlue (λ b. glueP (λ g. q (b ∷ g))) (b ∷ t) ≡ glueP Q (b ∷ t)
@@ -139,7 +139,7 @@ module _ {A : Type 0} (q : Bytes → Reader A) where
 unfoldable pub versionedP : Bytes → Reader Declaration
 versionedP g t = chained (settingP (text "version") versionP g t) (λ p u. behindVersionP (mkDeclaration p) u)
 
-pub declaration-bind : (t : Bytes) → declarationP t ≡ chained (wordP (text "xml") t) (λ _ u. chained (glueTok u) (λ g v. pick (some g) (versionedP g v) (bad v)))
+pub declaration-bind : (t : Bytes) → declarationP t ≡ chained (wordP (text "xml") t) (λ _ u. chained (glueTok u) (λ g v. pick (nonEmpty g) (versionedP g v) (bad v)))
 unfolding declarationP wordP versionedP
 declaration-bind t = then-and (litP {A = ℕ} (text "xml") 0 t) _ ∙ and-ext (litP {A = ℕ} (text "xml") 0 t) (λ _ u. spaced-bind (λ g. bindP (settingP (text "version") versionP g) (λ p. behindVersionP (mkDeclaration p))) u
-    ∙ and-ext (glueTok u) (λ g v. ap (λ (o : Out Declaration). pick (some g) o (bad v)) (then-and (settingP (text "version") versionP g v) (λ p. behindVersionP (mkDeclaration p)))))
+    ∙ and-ext (glueTok u) (λ g v. ap (λ (o : Out Declaration). pick (nonEmpty g) o (bad v)) (then-and (settingP (text "version") versionP g v) (λ p. behindVersionP (mkDeclaration p)))))

@@ -15,7 +15,7 @@ use Rattle.scan.proofs.Chain.{then-done, then-more, then-bad, Fails, never, tok
 use Rattle.model.specs.Declarations.{versionP, encodingP, yesNoP, mkSetting, settingP, behindStandaloneP, standaloneOrEndP, behindEncodingP, behindVersionP, mkDeclaration, declarationP}
 use Rattle.exact.specs.Exact.{Out, done, more, bad, Reader}
 use Rattle.exact.specs.Byte.{pick, litP}
-use Rattle.grammar.specs.Bytes.{Bytes, text, either, some}
+use Rattle.grammar.specs.Bytes.{Bytes, text, either, nonEmpty}
 use Rattle.grammar.specs.Reference.{lt}
 use Rattle.grammar.specs.Value.{isQuote}
 use Rattle.grammar.specs.Declaration.{Setting, Optional, absent, present, Declaration}
@@ -184,13 +184,13 @@ setting-as {name} {s} {at} {r} {U} {W} f g = record {
 }
 
 -- glue of some bytes, or none
-some-part : (s : Bytes) (at a : ℕ) → at < a → a < length s → some (take (a - at) (drop at s)) ≡ true
+some-part : (s : Bytes) (at a : ℕ) → at < a → a < length s → nonEmpty (take (a - at) (drop at s)) ≡ true
 some-part s at a h k =
     let z : a - at ≡ suc (a - suc at) = omega arith in
     let l : at < length s = omega arith in
     rw (z, drop-cons s at 0 l)
 
-no-part : (s : Bytes) (at a : ℕ) → a ≡ at → some (take (a - at) (drop at s)) ≡ false
+no-part : (s : Bytes) (at a : ℕ) → a ≡ at → nonEmpty (take (a - at) (drop at s)) ≡ false
 no-part s at a h = let z : a - at ≡ 0 = omega arith in rw z
 
 -- the end of a declaration
@@ -242,7 +242,7 @@ module _ (s : Bytes) (at : ℕ) where
         record { says = λ x. last g 1 at (omega arith) (omega arith) (λ _. x absent absent G) (behind-version-bind x (drop at s) ∙ then-done _ (g₁ .says .2) ∙ rw z (lit-word (text "?>") (x absent absent G) (drop a s))) }
 
     module _ (ne : a ≡ at → ⊥) where
-      has : some G ≡ true
+      has : nonEmpty G ≡ true
       has = let l = g₁ .says .0 in some-part s at a (omega arith) (g₁ .says .1)
 
       pub behind-encoding-goes-on : {r : Step} → GotStandaloneOrEnd s a r → GotBehindEncoding s at r
@@ -289,7 +289,7 @@ module _ (s : Bytes) (at : ℕ) where
       abbrev B : Bytes
       B = take (i - a) (drop a s)
 
-      behind : declarationP (drop at s) ≡ pick (some B) (versionedP B (drop i s)) (bad (drop i s))
+      behind : declarationP (drop at s) ≡ pick (nonEmpty B) (versionedP B (drop i s)) (bad (drop i s))
       behind = declaration-bind (drop at s) ∙ then-done _ (g₁ .says .3) ∙ then-done _ (g₂ .says .2)
 
       pub declaration-unspaced : i ≡ a → Got 1 s at (Bad i) (declarationP (drop at s))
@@ -298,7 +298,7 @@ module _ (s : Bytes) (at : ℕ) where
       module _ (ne : i ≡ a → ⊥) where
         on : declarationP (drop at s) ≡ chained (settingP (text "version") versionP B (drop i s)) (λ p u. behindVersionP (mkDeclaration p) u)
         unfolding versionedP
-        on = let l = g₂ .says .0 in let z : some B ≡ true = some-part s a i (omega arith) (g₂ .says .1) in behind ∙ rw z
+        on = let l = g₂ .says .0 in let z : nonEmpty B ≡ true = some-part s a i (omega arith) (g₂ .says .1) in behind ∙ rw z
 
         pub declaration-version-fails : {r : Step} → Fails r → GotSetting (text "version") versionP s i r → Got 1 s at r (declarationP (drop at s))
         declaration-version-fails f g = pass f (g .says B) 1 at (omega arith) _ on

@@ -11,7 +11,7 @@ use borrow.Author.Tests.{eq-eqb, ne-eqb}
 use Rattle.exact.specs.Exact.{Out, done, bad}
 use Rattle.exact.specs.Loop.{onward}
 use Rattle.grammar.specs.Bytes.{Bytes}
-use Rattle.grammar.specs.Filler.{Standing, below, Filler}
+use Rattle.grammar.specs.Filler.{Filler}
 use Rattle.grammar.specs.Element.{empty, full, bare, child}
 use Rattle.model.specs.Attributes.{headP}
 use Rattle.model.specs.Elements.{closeP, tagOf, bodyP, elemP, Acc, ContentTurn, shutTurn, childTurn, contentP}
@@ -27,10 +27,10 @@ use Rattle.reader.specs.declared.elements.Start.{Start}
 use Rattle.reader.proofs.elements.Chains.{elem-bind, tagP, restP, content-is, content-step, tag-open, tag-close, tag-deep, tag-child}
 
 pub filler-done : {s : Bytes} {at : ℕ} {r : Step} → Got 1 s at r (gluedP 60 (drop at s)) → GotFiller s at r
-filler-done {s} {at} g = record { says = λ st. last g 1 at (omega arith) (omega arith) (λ b. record { glue = b }) (fill-tok st (drop at s)) }
+filler-done {s} {at} g = record { says = last g 1 at (omega arith) (omega arith) (λ b. record { glue = b }) (fill-tok (drop at s)) }
 
-pub known-filler : {s : Bytes} {at : ℕ} {r : Step} {e : ℕ} → r ≡ Done e → GotFiller s at r → (st : Standing) → Got 1 s at (Done e) (fillTok st (drop at s))
-known-filler q g st = known q (g .says st)
+pub known-filler : {s : Bytes} {at : ℕ} {r : Step} {e : ℕ} → r ≡ Done e → GotFiller s at r → Got 1 s at (Done e) (fillTok (drop at s))
+known-filler q g = known q (g .says)
 
 -- what a head's answer says of the model alone; a head that is known
 pub head-got : {may : Bool} {s : Bytes} {at : ℕ} {old new : List ℕ} {t : Tag} → HeadSays may s at old new t → Got 1 s at (t .end) (headP may (drop at s))
@@ -130,9 +130,9 @@ rest-start d n s at h = record { from = omega arith; upto = h; build = λ c. c; 
 
 module _ (d : ℕ) (n s : Bytes) (at i : ℕ) (w : Rest d n s at i) where
   pub content-fails : {r : Step} → Fails r → GotFiller s i r → Got 1 s at r (contentP d n (drop at s))
-  content-fails f g = pass f (g .says below) 1 at (w .from) _ (w .same ∙ content-step d n (w .build) (drop i s))
+  content-fails f g = pass f (g .says) 1 at (w .from) _ (w .same ∙ content-step d n (w .build) (drop i s))
 
-  module _ (j : ℕ) (g : Got 1 s i (Done j) (fillTok below (drop i s))) where
+  module _ (j : ℕ) (g : Got 1 s i (Done j) (fillTok (drop i s))) where
     abbrev k : Acc
     k = w .build
 

@@ -10,7 +10,6 @@ use Rattle.exact.specs.Chain.{bindP, mapP}
 use Rattle.exact.specs.Byte.{onP, litP, choiceP}
 use Rattle.grammar.specs.Bytes.{Bytes}
 use Rattle.grammar.specs.Limits.{DEPTH}
-use Rattle.grammar.specs.Filler.{prolog, root}
 use Rattle.grammar.specs.Message.{Layout, plain, declared, hermes}
 use Rattle.model.specs.Attributes.{headP}
 use Rattle.model.specs.Fillers.{fillP}
@@ -22,28 +21,28 @@ use Rattle.scan.specs.Unfold.{then-and, and-ext, on-bind, close-bind}
 use Rattle.reader.specs.Elements.{fillTok, fill-bind}
 use Rattle.reader.specs.Message.{insideP, declaredP}
 
-pub root-bind : (t : Bytes) → rootP t ≡ chained (wordP hermes t) (λ _ u. chained (headP false u) (λ h v. chained (fillTok root v) (λ f w. insideP hermes h f w)))
+pub root-bind : (t : Bytes) → rootP t ≡ chained (wordP hermes t) (λ _ u. chained (headP false u) (λ h v. chained (fillTok v) (λ f w. insideP hermes h f w)))
 unfolding rootP wordP insideP
 root-bind t =
     then-and (litP {A = ℕ} hermes 0 t) _
     ∙ and-ext (litP {A = ℕ} hermes 0 t) (λ _ u. then-and (headP false u) _ ∙ and-ext (headP false u) (λ h v.
-    fill-bind root (λ f. bindP (elemP (contentP (DEPTH - 2))) (λ e. fillP root (λ f′. closeP hermes (mkRoot h f e f′)))) v ∙ and-ext (fillTok root v) (λ f w.
+    fill-bind (λ f. bindP (elemP (contentP (DEPTH - 2))) (λ e. fillP (λ f′. closeP hermes (mkRoot h f e f′)))) v ∙ and-ext (fillTok v) (λ f w.
     then-and (elemP (contentP (DEPTH - 2)) w) _ ∙ and-ext (elemP (contentP (DEPTH - 2)) w) (λ e x.
-    fill-bind root (λ f′. closeP hermes (mkRoot h f e f′)) x ∙ and-ext (fillTok root x) (λ f′ y. close-bind hermes (mkRoot h f e f′) y)))))
+    fill-bind (λ f′. closeP hermes (mkRoot h f e f′)) x ∙ and-ext (fillTok x) (λ f′ y. close-bind hermes (mkRoot h f e f′) y)))))
 
 -- behind the first `<`
 unfoldable pub afterP : Reader Layout
 afterP =
-    choiceP (eqb 63) (onP (eqb 63) (λ c. bindP declarationP (λ d. fillP prolog (λ f. mapP (declared d f) rootP)))) (mapP plain rootP)
+    choiceP (eqb 63) (onP (eqb 63) (λ c. bindP declarationP (λ d. fillP (λ f. mapP (declared d f) rootP)))) (mapP plain rootP)
 
 pub layout-bind : (t : Bytes) → layoutP t ≡ chained (byteP 60 t) (λ _ u. afterP u)
 unfolding layoutP afterP
 layout-bind t =
-    on-bind 60 (choiceP (eqb 63) (onP (eqb 63) (λ c. bindP declarationP (λ d. fillP prolog (λ f. mapP (declared d f) rootP)))) (mapP plain rootP)) t
+    on-bind 60 (choiceP (eqb 63) (onP (eqb 63) (λ c. bindP declarationP (λ d. fillP (λ f. mapP (declared d f) rootP)))) (mapP plain rootP)) t
 
-declared-bind : (t : Bytes) → bindP declarationP (λ d. fillP prolog (λ f. mapP (declared d f) rootP)) t ≡ declaredP t
+declared-bind : (t : Bytes) → bindP declarationP (λ d. fillP (λ f. mapP (declared d f) rootP)) t ≡ declaredP t
 unfolding declaredP
-declared-bind t = then-and (declarationP t) _ ∙ and-ext (declarationP t) (λ d u. fill-bind prolog (λ f. mapP (declared d f) rootP) u ∙ and-ext (fillTok prolog u) (λ f v. then-and (rootP v) _))
+declared-bind t = then-and (declarationP t) _ ∙ and-ext (declarationP t) (λ d u. fill-bind (λ f. mapP (declared d f) rootP) u ∙ and-ext (fillTok u) (λ f v. then-and (rootP v) _))
 
 pub after-open : afterP [] ≡ more
 unfolding afterP

@@ -16,7 +16,7 @@ use Rattle.exact.specs.Byte.{Lit, lit, lit-exact}
 use Rattle.grammar.specs.Bytes.{Bytes, text}
 use Rattle.grammar.specs.Limits.{DEPTH}
 use Rattle.grammar.specs.Attribute.{spellAttributes}
-use Rattle.grammar.specs.Filler.{Standing, prolog, root, Filler, spellFiller}
+use Rattle.grammar.specs.Filler.{Filler, spellFiller}
 use Rattle.grammar.specs.Element.{Element, empty, full}
 use Rattle.grammar.specs.Message.{Root, Layout, plain, declared, hermes}
 use Rattle.model.specs.Attributes.{Head, endOf, IsHead, headP, head-exact}
@@ -70,14 +70,14 @@ byte-there b s at e g =
     go u i (lit q z) = i ∙ ap (λ (y : Bytes). at + length y) q
 
 -- filler and `<`
-pub filler-there : (st : Standing) (s : Bytes) (at e : ℕ) (g : Got 1 s at (Done e) (fillTok st (drop at s))) → e ≡ at + length (spellFiller (g .says .0)) + 1
+pub filler-there : (s : Bytes) (at e : ℕ) (g : Got 1 s at (Done e) (fillTok (drop at s))) → e ≡ at + length (spellFiller (g .says .0)) + 1
 unfolding fillTok
-filler-there st s at e g =
+filler-there s at e g =
     let h = g .says .1 in
-    let (u, i, j, l) = spanned (fill-exact st (λ f y. ret-exact f)) s at e (g .says .0) (omega arith) (g .says .2) (g .says .3) in
+    let (u, i, j, l) = spanned (fill-exact (λ f y. ret-exact f)) s at e (g .says .0) (omega arith) (g .says .2) (g .says .3) in
     go u i l
   where
-    go : (u : Bytes) → e ≡ at + length u → FillThen st (λ f. Ret f) u (g .says .0) → e ≡ at + length (spellFiller (g .says .0)) + 1
+    go : (u : Bytes) → e ≡ at + length u → FillThen (λ f. Ret f) u (g .says .0) → e ≡ at + length (spellFiller (g .says .0)) + 1
     go u i (filled f k q y (ret z x)) =
         let y : u ≡ spellFiller f ++ 60 ∷ [] = q ∙ ap (λ (k : Bytes). spellFiller f ++ 60 ∷ k) z in
         let n : length u ≡ length (spellFiller f) + 1 = ap length y ∙ length-append (spellFiller f) (60 ∷ []) in
@@ -188,9 +188,9 @@ module _ (n s : Bytes) (at : ℕ) (old new : List ℕ) (c r : Inner) where
     unfolding insideP
     inside-filler-fails q f g =
         let k = known ca (g₁ .got) in
-        record { says = λ h b. inner-fails innerOf none s at old new (ap (λ (x : Inner). x .end) q) f (pass f (g .says root) 1 at (let l = k .says .1 in omega arith) _ (then-done _ (k .says .3))) }
+        record { says = λ h b. inner-fails innerOf none s at old new (ap (λ (x : Inner). x .end) q) f (pass f (g .says) 1 at (let l = k .says .1 in omega arith) _ (then-done _ (k .says .3))) }
 
-    pub inside-read : {x : Step} → r ≡ withEnd c x → (i : ℕ) → Got 1 s a (Done i) (fillTok root (drop a s)) → Got 1 s i x (endTagP n (drop i s)) → GotInside n s at old new r
+    pub inside-read : {x : Step} → r ≡ withEnd c x → (i : ℕ) → Got 1 s a (Done i) (fillTok (drop a s)) → Got 1 s i x (endTagP n (drop i s)) → GotInside n s at old new r
     unfolding insideP
     inside-read {x} q i g₂ g = record {
       says = λ h b. record { got = subst (λ (y : Step). Got 1 s at y (insideP n h b (drop at s))) (sym (ap (λ (x : Inner). x .end) q)) (all h b); lines = λ v e z y. says h b v e y };
@@ -218,7 +218,7 @@ inside-made : (n : Bytes) (h : Head) (f : Filler) (t : Bytes) (v : Root) (u : By
 unfolding insideP
 inside-made n h f t v u q =
     let (x, t₁, a, q₁) = both-done (elemP (contentP (DEPTH - 2)) t) _ q in
-    let (f′, t₂, b, q₂) = both-done (fillTok root t₁) _ q₁ in
+    let (f′, t₂, b, q₂) = both-done (fillTok t₁) _ q₁ in
     let (g, t₃, c, q₃) = both-done (endTagP n t₂) (λ g z. done (mkRoot h f x f′ g) z) q₂ in
     (x, f′, g, cc)
 
@@ -236,9 +236,9 @@ module _ (s : Bytes) (at : ℕ) where
       hd = g₂ .head
 
       pub root-filler-fails : {x : Step} → Fails x → GotFiller s e x → Got 1 s at x (rootP (drop at s))
-      root-filler-fails f g = pass f (g .says root) 1 at (let l = g₁ .says .1 in let m = g₂ .far in omega arith) _ (root-bind (drop at s) ∙ then-done _ (g₁ .says .3) ∙ then-done _ (g₂ .reads))
+      root-filler-fails f g = pass f (g .says) 1 at (let l = g₁ .says .1 in let m = g₂ .far in omega arith) _ (root-bind (drop at s) ∙ then-done _ (g₁ .says .3) ∙ then-done _ (g₂ .reads))
 
-      module _ (i : ℕ) (g₃ : Got 1 s e (Done i) (fillTok root (drop e s))) where
+      module _ (i : ℕ) (g₃ : Got 1 s e (Done i) (fillTok (drop e s))) where
         fl : Filler
         fl = g₃ .says .0
 
@@ -252,7 +252,7 @@ module _ (s : Bytes) (at : ℕ) where
             let k = word-there hermes s at a g₁ .0 in
             let y = root-started s a e hd (g₂ .far) (g₂ .upto) (g₂ .reads) in
             let l = head-there false s a e hd (g₂ .far) (g₂ .upto) (g₂ .reads) y in
-            let m = filler-there root s e i g₃ in
+            let m = filler-there s e i g₃ in
             omega (
               arith,
               length-append (spellAttributes (hd .attributes)) (hd .trail ++ text ">"),
@@ -283,14 +283,14 @@ module _ (s : Bytes) (at : ℕ) where
   module _ (a : ℕ) (g₁ : Got 1 s at (Done a) (declarationP (drop at s))) where
     pub declared-filler-fails : {x : Step} → Fails x → GotFiller s a x → Got 1 s at x (declaredP (drop at s))
     unfolding declaredP
-    declared-filler-fails f g = pass f (g .says prolog) 1 at (let l = g₁ .says .1 in omega arith) _ (then-done _ (g₁ .says .3))
+    declared-filler-fails f g = pass f (g .says) 1 at (let l = g₁ .says .1 in omega arith) _ (then-done _ (g₁ .says .3))
 
-    module _ (b : ℕ) (g₂ : Got 1 s a (Done b) (fillTok prolog (drop a s))) where
+    module _ (b : ℕ) (g₂ : Got 1 s a (Done b) (fillTok (drop a s))) where
       declared-place : (x : Root) → b + length (rootLead x) ≡ at + length (declaredLead (declared (g₁ .says .0) (g₂ .says .0) x))
       declared-place x =
           let l = g₁ .says .1 in
           let (w, i, j, k) = spanned declaration-exact s at a (g₁ .says .0) (omega arith) (g₁ .says .2) (g₁ .says .3) in
-          let m = filler-there prolog s a b g₂ in
+          let m = filler-there s a b g₂ in
           let y = spellFiller (g₂ .says .0) ++ code "<" ∷ rootLead x in
           let q : declaredLead (declared (g₁ .says .0) (g₂ .says .0) x) ≡ w ++ y = ap (λ (z : Bytes). drop 2 (z ++ y)) (sym (k .spelt)) in
           let n : length (declaredLead (declared (g₁ .says .0) (g₂ .says .0) x)) ≡ length w + length y = ap length q ∙ length-append w y in

@@ -2,8 +2,6 @@
 use Rattle.handover.proofs.IdLaws.{id-board, id-start, id-transfer, id-none-below, id-none-above}
 use Rattle.handover.proofs.ids.board_id.Statement.{statement}
 use Rattle.handover.proofs.ids.board_id.Tie as tie
-use Rattle.handover.proofs.ids.board_id.Reads as reads
-use Rattle.handover.proofs.ids.board_id.Lts as lts
 
 returns : tie.Need-returns
 returns c = id-board (c .before .before .before .before .args .m) (c .before .before .before .match .keys1)

@@ -3,11 +3,6 @@ use Rattle.handover.proofs.ReceiveLaws.{wrote-nothing-yet, wrote-notice
 use borrow.Author.Needs.{needs}
 use Rattle.handover.proofs.receiving.answer.Statement.{statement}
 use Rattle.handover.proofs.receiving.answer.Tie as tie
-use Rattle.handover.proofs.receiving.answer.Reads as reads
-use Rattle.handover.proofs.receiving.answer.Lts as lts
-use Rattle.handover.proofs.receiving.asks_reply.Reads as asks-reply-reads
-use Rattle.replies.proofs.reply.Reads as reply-reads
-use Rattle.replies.proofs.notify.Reads as notify-reads
 
 returns : tie.Need-returns
 returns c = wrote-nothing-yet (c .before .before .before .args .s .now) (c .before .before .before .args .m) (c .before .before .before .args .refusal) (c .before .before .before .args .out .now) (c .if1 .taken)

@@ -3,8 +3,6 @@ use Rattle.handover.proofs.IdLaws.{asks-none, asks-some, asks-other}
 use borrow.Author.Needs.{needs}
 use Rattle.handover.proofs.receiving.asks_reply.Statement.{statement}
 use Rattle.handover.proofs.receiving.asks_reply.Tie as tie
-use Rattle.handover.proofs.receiving.asks_reply.Reads as reads
-use Rattle.handover.proofs.receiving.asks_reply.Lts as lts
 
 enum-known-ping : tie.Need-enum-known-ping
 enum-known-ping c = search needs

@@ -3,9 +3,6 @@ use Rattle.handover.proofs.ReceiveLaws.{room-lacks}
 use borrow.Author.Needs.{needs}
 use Rattle.handover.proofs.receiving.no_room.Statement.{statement}
 use Rattle.handover.proofs.receiving.no_room.Tie as tie
-use Rattle.handover.proofs.receiving.no_room.Reads as reads
-use Rattle.handover.proofs.receiving.no_room.Lts as lts
-use Rattle.message.proofs.blank.Reads as blank-reads
 
 blank-requires : tie.Need-blank-requires
 blank-requires c κs = search needs

@@ -4,13 +4,6 @@ use Rattle.handover.proofs.ReceiveLaws.{is-no-room, is-told}
 use borrow.Author.Needs.{needs}
 use Rattle.handover.proofs.receiving.receive.Statement.{statement}
 use Rattle.handover.proofs.receiving.receive.Tie as tie
-use Rattle.handover.proofs.receiving.receive.Reads as reads
-use Rattle.handover.proofs.receiving.receive.Lts as lts
-use Rattle.handover.proofs.receiving.answer.Reads as answer-reads
-use Rattle.handover.proofs.receiving.moved_by.Reads as moved-by-reads
-use Rattle.handover.proofs.receiving.no_room.Reads as no-room-reads
-use Rattle.handover.proofs.receiving.told.Reads as told-reads
-use Rattle.message.proofs.check.Reads as check-reads
 
 check-requires : tie.Need-check-requires
 check-requires c κs = search needs

@@ -3,9 +3,6 @@ use Rattle.handover.proofs.ReceiveLaws.{told-refused, told-accepted}
 use borrow.Author.Needs.{needs}
 use Rattle.handover.proofs.receiving.told.Statement.{statement}
 use Rattle.handover.proofs.receiving.told.Tie as tie
-use Rattle.handover.proofs.receiving.told.Reads as reads
-use Rattle.handover.proofs.receiving.told.Lts as lts
-use Rattle.message.proofs.blank.Reads as blank-reads
 
 blank-requires : tie.Need-blank-requires
 blank-requires c κs = search needs

@@ -3,9 +3,6 @@ use Rattle.handover.proofs.SendLaws.{refused-first, refused-then}
 use borrow.Author.Needs.{needs}
 use Rattle.handover.proofs.sending.may_not.Statement.{statement}
 use Rattle.handover.proofs.sending.may_not.Tie as tie
-use Rattle.handover.proofs.sending.may_not.Reads as reads
-use Rattle.handover.proofs.sending.may_not.Lts as lts
-use Rattle.writer.proofs.refusal_of.Reads as refusal-of-reads
 
 refusal-of-requires : tie.Need-refusal-of-requires
 refusal-of-requires c κs = search needs

@@ -5,16 +5,9 @@ use Rattle.handover.proofs.SendLaws.{is-not-sent, is-refused, is-sent}
 use borrow.Author.Needs.{needs}
 use Rattle.handover.proofs.sending.send.Statement.{statement}
 use Rattle.handover.proofs.sending.send.Tie as tie
-use Rattle.handover.proofs.sending.send.Reads as reads
-use Rattle.handover.proofs.sending.send.Lts as lts
-use Rattle.emit.proofs.write.Reads as write-reads
-use Rattle.handover.proofs.ids.board_id.Reads as board-id-reads
-use Rattle.handover.proofs.sending.kept.Reads as kept-reads
-use Rattle.handover.proofs.sending.may_not.Reads as may-not-reads
-use Rattle.lane.proofs.Lane.sent.Reads as sent-reads
 
-board-id-requires : tie.Need-board-id-requires
-board-id-requires c κs = search needs
+event-of-requires : tie.Need-event-of-requires
+event-of-requires c κs = search needs
 
 sent-requires : tie.Need-sent-requires
 sent-requires c κs = search needs
@@ -26,7 +19,7 @@ kept-requires : tie.Need-kept-requires
 kept-requires c κs = search needs
 
 returns : tie.Need-returns
-returns c = is-not-sent (c .before .before .before .before .before .before .before .before .args .lane) (c .before .before .before .before .before .before .before .before .args .m) (c .before .before .before .before .before .before .before .before .args .texts .now) (c .before .before .before .before .sent .ensures ∙ ap (sent (c .before .before .before .before .before .before .before .before .args .lane) (c .before .before .before .before .before .before .before .before .args .m .kind)) (c .before .before .before .before .before .board-id .ensures)) (c .before .before .if1 .taken) (c .before .may-not .ensures) (c .kept .ensures)
+returns c = is-not-sent (c .before .before .before .before .before .before .before .before .args .lane) (c .before .before .before .before .before .before .before .before .args .m) (c .before .before .before .before .before .before .before .before .args .texts .now) (c .before .before .before .before .sent .ensures ∙ ap (sent (c .before .before .before .before .before .before .before .before .args .lane)) (c .before .before .before .before .before .event-of .ensures)) (c .before .before .if1 .taken) (c .before .may-not .ensures) (c .kept .ensures)
 
 write-requires : tie.Need-write-requires
 write-requires c κs = search needs
@@ -38,19 +31,19 @@ same-length : tie.Need-same-length
 same-length c = search needs
 
 returns-2 : tie.Need-returns-2
-returns-2 c = is-refused (c .before .before .before .before .before .before .before .before .before .before .before .before .before .args .lane) (c .before .before .before .before .before .before .before .before .before .before .before .before .before .args .m) (c .before .before .before .before .before .before .before .before .before .before .before .before .before .args .texts .now) (c .before .before .before .before .before .before .before .before .before .sent .ensures ∙ ap (sent (c .before .before .before .before .before .before .before .before .before .before .before .before .before .args .lane) (c .before .before .before .before .before .before .before .before .before .before .before .before .before .args .m .kind)) (c .before .before .before .before .before .before .before .before .before .before .board-id .ensures)) (c .before .before .before .before .before .before .before .if1 .left) (c .before .before .before .before .before .write .ensures) (c .before .if2 .taken) (c .kept2 .ensures)
+returns-2 c = is-refused (c .before .before .before .before .before .before .before .before .before .before .before .before .before .args .lane) (c .before .before .before .before .before .before .before .before .before .before .before .before .before .args .m) (c .before .before .before .before .before .before .before .before .before .before .before .before .before .args .texts .now) (c .before .before .before .before .before .before .before .before .before .sent .ensures ∙ ap (sent (c .before .before .before .before .before .before .before .before .before .before .before .before .before .args .lane)) (c .before .before .before .before .before .before .before .before .before .before .event-of .ensures)) (c .before .before .before .before .before .before .before .if1 .left) (c .before .before .before .before .before .write .ensures) (c .before .if2 .taken) (c .kept2 .ensures)
 
 same-length-2 : tie.Need-same-length-2
 same-length-2 c = search needs
 
 returns-3 : tie.Need-returns-3
-returns-3 c = is-sent (c .before .before .before .before .before .before .before .before .before .before .before .before .before .args .lane) (c .before .before .before .before .before .before .before .before .before .before .before .before .before .args .m) (c .before .before .before .before .before .before .before .before .before .before .before .before .before .args .texts .now) (c .before .before .before .before .before .before .before .before .before .sent .ensures ∙ ap (sent (c .before .before .before .before .before .before .before .before .before .before .before .before .before .args .lane) (c .before .before .before .before .before .before .before .before .before .before .before .before .before .args .m .kind)) (c .before .before .before .before .before .before .before .before .before .before .board-id .ensures)) (c .before .before .before .before .before .before .before .if1 .left) (c .before .before .before .before .before .write .ensures) (c .before .if2 .left)
+returns-3 c = is-sent (c .before .before .before .before .before .before .before .before .before .before .before .before .before .args .lane) (c .before .before .before .before .before .before .before .before .before .before .before .before .before .args .m) (c .before .before .before .before .before .before .before .before .before .before .before .before .before .args .texts .now) (c .before .before .before .before .before .before .before .before .before .sent .ensures ∙ ap (sent (c .before .before .before .before .before .before .before .before .before .before .before .before .before .args .lane)) (c .before .before .before .before .before .before .before .before .before .before .event-of .ensures)) (c .before .before .before .before .before .before .before .if1 .left) (c .before .before .before .before .before .write .ensures) (c .before .if2 .left)
 
 pub send-spec : {M : Type 1} → statement M
 send-spec =
     tie.close
     (tie.spec
-    board-id-requires
+    event-of-requires
     sent-requires
     may-not-requires
     kept-requires

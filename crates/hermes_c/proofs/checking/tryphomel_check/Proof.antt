@@ -3,11 +3,6 @@ use Rattle.hermes_c.proofs.CheckLaws.{finds}
 use borrow.Author.Needs.{needs}
 use Rattle.hermes_c.proofs.checking.tryphomel_check.Statement.{statement}
 use Rattle.hermes_c.proofs.checking.tryphomel_check.Tie as tie
-use Rattle.hermes_c.proofs.checking.tryphomel_check.Reads as reads
-use Rattle.hermes_c.proofs.checking.tryphomel_check.Lts as lts
-use Rattle.flat.proofs.id_of.Reads as id-of-reads
-use Rattle.flat.proofs.numbers_of.Reads as numbers-of-reads
-use Rattle.message.proofs.check.Reads as check-reads
 
 check-requires : tie.Need-check-requires
 check-requires c κs = search needs
@@ -19,7 +14,7 @@ numbers-of-requires : tie.Need-numbers-of-requires
 numbers-of-requires c κs = search needs
 
 returns : tie.Need-returns
-returns c = finds (c .before .before .before .before .check .ensures) (c .numbers-of .ensures) (c .before .before .id-of .ensures)
+returns c = finds (c .before .before .before .check .ensures) (c .numbers-of .ensures) (c .before .id-of .ensures)
 
 pub tryphomel-check-spec : {M : Type 1} → statement M
 tryphomel-check-spec =

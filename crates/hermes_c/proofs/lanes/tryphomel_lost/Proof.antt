@@ -3,9 +3,6 @@ use Rattle.hermes_c.proofs.LaneLaws.{lost-parts}
 use borrow.Author.Needs.{needs}
 use Rattle.hermes_c.proofs.lanes.tryphomel_lost.Statement.{statement}
 use Rattle.hermes_c.proofs.lanes.tryphomel_lost.Tie as tie
-use Rattle.hermes_c.proofs.lanes.tryphomel_lost.Reads as reads
-use Rattle.hermes_c.proofs.lanes.tryphomel_lost.Lts as lts
-use Rattle.lane.proofs.Lane.lost.Reads as lost-reads
 
 lost-requires : tie.Need-lost-requires
 lost-requires c κs = search needs

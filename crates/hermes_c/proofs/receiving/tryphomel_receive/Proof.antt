@@ -3,11 +3,6 @@ use Rattle.hermes_c.proofs.ReceiveLaws.{receives-as}
 use borrow.Author.Needs.{needs}
 use Rattle.hermes_c.proofs.receiving.tryphomel_receive.Statement.{statement}
 use Rattle.hermes_c.proofs.receiving.tryphomel_receive.Tie as tie
-use Rattle.hermes_c.proofs.receiving.tryphomel_receive.Reads as reads
-use Rattle.hermes_c.proofs.receiving.tryphomel_receive.Lts as lts
-use Rattle.handover.proofs.receive.Reads as receive-reads
-use Rattle.flat.proofs.id_of.Reads as id-of-reads
-use Rattle.flat.proofs.numbers_of.Reads as numbers-of-reads
 
 receive-requires : tie.Need-receive-requires
 receive-requires c κs = search needs
@@ -22,7 +17,7 @@ same-length : tie.Need-same-length
 same-length c = search needs
 
 returns : tie.Need-returns
-returns c = receives-as (c .before .before .before .before .before .before .before .before .before .receive .ensures) (c .numbers-of .ensures) (c .before .before .before .before .id-of .ensures)
+returns c = receives-as (c .before .before .before .before .before .before .before .before .receive .ensures) (c .numbers-of .ensures) (c .before .before .before .id-of .ensures)
 
 pub tryphomel-receive-spec : {M : Type 1} → statement M
 tryphomel-receive-spec =

@@ -1,5 +1,4 @@
 -- The numbers that C is handed are those of the answer.
-use Rattle.value.specs.Asked.{refusalOf}
 use Rattle.hermes_c.proofs.TextLaws.{text-told}
 use borrow.Author.Needs.{needs}
 use Rattle.hermes_c.proofs.texts.tryphomel_text.Statement.{statement}
@@ -24,21 +23,18 @@ same-length : tie.Need-same-length
 same-length c = search needs
 
 returns : tie.Need-returns
-unfolding refusalOf
 returns c = text-told _ _ _ _ _ _ _ _ _ (c .before .before .before .before .before .before .before .text-from .ensures) (c .before .answer .given .1) (c .before .before .before .before .before .text-decode .ensures)
 
 same-length-2 : tie.Need-same-length-2
 same-length-2 c = search needs
 
 returns-2 : tie.Need-returns-2
-unfolding refusalOf
 returns-2 c = text-told _ _ _ _ _ _ _ _ _ (c .before .before .before .before .before .before .before .text-from .ensures) (c .before .answer2 .given .1) (c .before .before .before .before .before .text-decode .ensures)
 
 same-length-3 : tie.Need-same-length-3
 same-length-3 c = search needs
 
 returns-3 : tie.Need-returns-3
-unfolding refusalOf
 returns-3 c = text-told _ _ _ _ _ _ _ _ _ (c .before .before .before .before .before .before .before .text-from .ensures) (c .before .answer3 .given .1) (c .before .before .before .before .before .text-decode .ensures)
 
 pub tryphomel-text-spec : {M : Type 1} → statement M

@@ -7,12 +7,15 @@ use Rattle.lane.proofs.Lane.offered_in.Tie as tie
 
 returns : tie.Need-returns
 returns c =
-    rw (listed (3 ∷ 5 ∷ []) (c .before .before .args .n) (c .before .match .keys1), eq-eqb (c .before .before .args .kind) 3 (c .if1 .taken))
+    let m = c .before .before .before in
+    let a = m .before .args in
+    rw (listed (3 ∷ 5 ∷ []) (a .n) (m .match .keys1), eq-eqb (a .event .kind) 3 (c .before .if1 .taken))
 
 returns-2 : tie.Need-returns-2
 returns-2 c =
-    let a = c .before .before .before .args in
-    rw (listed (3 ∷ 5 ∷ []) (a .n) (c .before .before .match .keys1), ne-eqb (a .kind) 3 (c .before .if1 .left))
+    let m = c .before .before .before in
+    let a = m .before .args in
+    rw (listed (3 ∷ 5 ∷ []) (a .n) (m .match .keys1), ne-eqb (a .event .kind) 3 (c .before .if1 .left))
 
 returns-3 : tie.Need-returns-3
 returns-3 c = rw (not-listed (3 ∷ 5 ∷ []) (c .before .args .n) (c .match .rest .1))

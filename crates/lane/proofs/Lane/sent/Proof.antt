@@ -19,6 +19,9 @@ accepted-requires c κs = search needs
 enum-told : tie.Need-enum-told
 enum-told c = search needs
 
+kept-requires : tie.Need-kept-requires
+kept-requires c κs = search needs
+
 returns : tie.Need-returns
 unfolding says.sent
 returns c =
@@ -29,8 +32,9 @@ returns c =
 returns-2 : tie.Need-returns-2
 unfolding says.sent
 returns-2 c =
-    let b = c .before .before in
-    rw (← b .before .carries-own .ensures, ← b .next .ensures, c .enum-told .given .1)
+    let b = c .before .before .before in
+    rw (← b .before .carries-own .ensures, ← b .next .ensures, c .before .enum-told .given .1)
+    (c .kept .ensures)
 
 pub sent-spec : {M : Type 1} → statement M
 sent-spec =
@@ -41,5 +45,6 @@ sent-spec =
     enum-known-n
     accepted-requires
     enum-told
+    kept-requires
     returns
     returns-2)

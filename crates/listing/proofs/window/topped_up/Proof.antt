@@ -3,13 +3,8 @@ use native.Mathlib.Omega.{arith}
 use denote.Ref.{now}
 use borrow.Author.Needs.{needs}
 use Rattle.listing.proofs.WindowLaws.{topped-at-end, topped-already, topped-read}
-use borrow.Author.Needs.{needs}
 use Rattle.listing.proofs.window.topped_up.Statement.{statement}
 use Rattle.listing.proofs.window.topped_up.Tie as tie
-use Rattle.listing.proofs.window.topped_up.Reads as reads
-use Rattle.listing.proofs.window.topped_up.Lts as lts
-use Rattle.listing.proofs.window.fill.Reads as fill-reads
-use Rattle.listing.proofs.window.move_to_front.Reads as move-to-front-reads
 
 sub-n : tie.Need-sub-n
 sub-n c = omega arith
@@ -18,7 +13,7 @@ returns : tie.Need-returns
 returns c = topped-at-end (c .before .before .before .args .w) (now (c .before .before .before .args .buf)) (c .before .before .before .pre .0) (c .if1 .taken)
 
 returns-2 : tie.Need-returns-2
-returns-2 c = topped-already (c .before .before .before .before .args .w) (now (c .before .before .before .before .args .buf)) (c .before .before .before .before .pre .0) (omega arith)
+returns-2 c = topped-already (c .before .before .before .before .args .w) (now (c .before .before .before .before .args .buf)) (c .before .before .before .before .pre .0) (c .before .if1 .left) (omega arith)
 
 move-to-front-requires : tie.Need-move-to-front-requires
 move-to-front-requires c κs = omega arith
@@ -30,7 +25,7 @@ same-length : tie.Need-same-length
 same-length c = search needs
 
 returns-3 : tie.Need-returns-3
-returns-3 c = topped-read (c .before .before .before .before .before .before .before .before .before .before .before .before .args .w) (now (c .before .before .before .before .before .before .before .before .before .before .before .before .args .buf)) (c .before .before .before .before .before .before .move-to-front .last .0) (c .before .before .fill .last .0) (c .before .before .fill .result) (c .before .before .before .before .before .before .move-to-front .ensures) (c .before .before .fill .ensures .1 .1) (c .before .before .fill .ensures .0) (c .before .before .fill .ensures .1 .0) (omega arith)
+returns-3 c = topped-read (c .before .before .before .before .before .before .before .before .before .before .before .before .args .w) (now (c .before .before .before .before .before .before .before .before .before .before .before .before .args .buf)) (c .before .before .before .before .before .before .move-to-front .last .0) (c .before .before .fill .last .0) (c .before .before .fill .result) (c .before .before .before .before .before .before .before .before .before .if1 .left) (c .before .before .before .before .before .before .move-to-front .ensures) (c .before .before .fill .ensures .1 .1) (c .before .before .fill .ensures .0) (c .before .before .fill .ensures .1 .0) (omega arith)
 
 pub topped-up-spec : {M : Type 1} → statement M
 topped-up-spec =

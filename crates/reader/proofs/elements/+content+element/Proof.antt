@@ -2,7 +2,6 @@
 -- The invariant of content's loop: the content at `at` goes on at i as its model does.
 use native.Mathlib.Omega.{arith}
 use lib.ListN.{length, take, drop}
-use Rattle.grammar.specs.Filler.{below}
 use Rattle.scan.proofs.Chain.{known}
 use Rattle.reader.proofs.elements.Laws.{known-filler, known-start, element-fails, element-empty, element-full, Rest, rest-start, content-fails, content-open, content-ends, content-deep, content-child-fails, content-next}
 use Prim.Native.Nat.{ℕ, _-_, _<_}
@@ -60,7 +59,7 @@ content-returns : (t : ℕ) → content-lts.Need-returns (content-calls t) (cont
 content-returns t c = content-fails _ _ _ _ _ (c .before .before .loop .inv) (c .match .keys2) (c .before .filler-lt .ensures)
 
 content-returns-2 : (t : ℕ) → content-lts.Need-returns-2 (content-calls t) (content-at t) content.Post content-Inv-loop content-μ-loop
-content-returns-2 t c = content-open _ _ _ _ _ (c .before .before .before .before .before .loop .inv) _ (known-filler (c .before .before .r .given .1) (c .before .before .before .before .filler-lt .ensures) below) (c .if1 .taken)
+content-returns-2 t c = content-open _ _ _ _ _ (c .before .before .before .before .before .loop .inv) _ (known-filler (c .before .before .r .given .1) (c .before .before .before .before .filler-lt .ensures)) (c .if1 .taken)
 
 content-shared-slice-read-if2 : (t : ℕ) → content-lts.Need-shared-slice-read-if2 (content-calls t) (content-at t) content.Post content-Inv-loop content-μ-loop
 content-shared-slice-read-if2 t c = omega arith
@@ -69,28 +68,28 @@ content-end-tag-requires : (t : ℕ) → content-lts.Need-end-tag-requires (cont
 content-end-tag-requires t c κs = let p = c .before .before .before .before .before .before .before .before .before .pre .1 in (omega arith, p .1, p .2)
 
 content-returns-3 : (t : ℕ) → content-lts.Need-returns-3 (content-calls t) (content-at t) content.Post content-Inv-loop content-μ-loop
-content-returns-3 t c = content-ends _ _ _ _ _ (c .before .before .before .before .before .before .before .before .loop .inv) _ (known-filler (c .before .before .before .before .before .r .given .1) (c .before .before .before .before .before .before .before .filler-lt .ensures) below) (c .before .before .before .if1 .left) (c .before .if2 .taken) (c .end-tag .ensures)
+content-returns-3 t c = content-ends _ _ _ _ _ (c .before .before .before .before .before .before .before .before .loop .inv) _ (known-filler (c .before .before .before .before .before .r .given .1) (c .before .before .before .before .before .before .before .filler-lt .ensures)) (c .before .before .before .if1 .left) (c .before .if2 .taken) (c .end-tag .ensures)
 
 content-returns-4 : (t : ℕ) → content-lts.Need-returns-4 (content-calls t) (content-at t) content.Post content-Inv-loop content-μ-loop
-content-returns-4 t c = content-deep _ _ _ _ _ (c .before .before .before .before .before .before .before .before .loop .inv) _ (known-filler (c .before .before .before .before .before .r .given .1) (c .before .before .before .before .before .before .before .filler-lt .ensures) below) (c .before .before .before .if1 .left) (c .before .if2 .left) (c .if3 .taken)
+content-returns-4 t c = content-deep _ _ _ _ _ (c .before .before .before .before .before .before .before .before .loop .inv) _ (known-filler (c .before .before .before .before .before .r .given .1) (c .before .before .before .before .before .before .before .filler-lt .ensures)) (c .before .before .before .if1 .left) (c .before .if2 .left) (c .if3 .taken)
 
 content-sub-element : (t : ℕ) → content-lts.Need-sub-element (content-calls t) (content-at t) content.Post content-Inv-loop content-μ-loop
 content-sub-element t c = omega arith
 
 content-element-requires : (t : ℕ) → content-lts.Need-element-requires (content-calls t) (content-at t) content.Post content-Inv-loop content-μ-loop
-content-element-requires t c κs = let g = known-filler (c .before .before .before .before .before .before .r .given .1) (c .before .before .before .before .before .before .before .before .filler-lt .ensures) below in let f = c .before .before .before .before .before .before .before .before .before .loop .inv .from in (omega arith, omega arith)
+content-element-requires t c κs = let g = known-filler (c .before .before .before .before .before .before .r .given .1) (c .before .before .before .before .before .before .before .before .filler-lt .ensures) in let f = c .before .before .before .before .before .before .before .before .before .loop .inv .from in (omega arith, omega arith)
 
 content-enum-known-r-2 : (t : ℕ) → content-lts.Need-enum-known-r-2 (content-calls t) (content-at t) content.Post content-Inv-loop content-μ-loop
 content-enum-known-r-2 t c = c .match2 .keys1
 
 content-returns-5 : (t : ℕ) → content-lts.Need-returns-5 (content-calls t) (content-at t) content.Post content-Inv-loop content-μ-loop
-content-returns-5 t c = content-child-fails _ _ _ _ _ (c .before .before .before .before .before .before .before .before .before .before .before .loop .inv) _ (known-filler (c .before .before .before .before .before .before .before .before .r .given .1) (c .before .before .before .before .before .before .before .before .before .before .filler-lt .ensures) below) (c .before .before .before .before .before .before .if1 .left) (c .before .before .before .before .if2 .left) (c .before .before .before .if3 .left) (c .match2 .keys2) (c .before .element .ensures)
+content-returns-5 t c = content-child-fails _ _ _ _ _ (c .before .before .before .before .before .before .before .before .before .before .before .loop .inv) _ (known-filler (c .before .before .before .before .before .before .before .before .r .given .1) (c .before .before .before .before .before .before .before .before .before .before .filler-lt .ensures)) (c .before .before .before .before .before .before .if1 .left) (c .before .before .before .before .if2 .left) (c .before .before .before .if3 .left) (c .match2 .keys2) (c .before .element .ensures)
 
 content-loop-less : (t : ℕ) → content-lts.Need-loop-less (content-calls t) (content-at t) content.Post content-Inv-loop content-μ-loop
-content-loop-less t c = let g = known-filler (c .before .before .before .before .before .before .before .before .before .before .r .given .1) (c .before .before .before .before .before .before .before .before .before .before .before .before .filler-lt .ensures) below in let k = known (c .before .r2 .given .1) (c .before .before .before .element .ensures) in omega arith
+content-loop-less t c = let g = known-filler (c .before .before .before .before .before .before .before .before .before .before .r .given .1) (c .before .before .before .before .before .before .before .before .before .before .before .before .filler-lt .ensures) in let k = known (c .before .r2 .given .1) (c .before .before .before .element .ensures) in omega arith
 
 content-loop-again : (t : ℕ) → content-lts.Need-loop-again (content-calls t) (content-at t) content.Post content-Inv-loop content-μ-loop
-content-loop-again t c = content-next _ _ _ _ _ (c .before .before .before .before .before .before .before .before .before .before .before .before .before .loop .inv) _ (known-filler (c .before .before .before .before .before .before .before .before .before .before .r .given .1) (c .before .before .before .before .before .before .before .before .before .before .before .before .filler-lt .ensures) below) (c .before .before .before .before .before .before .before .before .if1 .left) (c .before .before .before .before .before .before .if2 .left) (c .before .before .before .before .before .if3 .left) (known (c .before .r2 .given .1) (c .before .before .before .element .ensures))
+content-loop-again t c = content-next _ _ _ _ _ (c .before .before .before .before .before .before .before .before .before .before .before .before .before .loop .inv) _ (known-filler (c .before .before .before .before .before .before .before .before .before .before .r .given .1) (c .before .before .before .before .before .before .before .before .before .before .before .before .filler-lt .ensures)) (c .before .before .before .before .before .before .before .before .if1 .left) (c .before .before .before .before .before .before .if2 .left) (c .before .before .before .before .before .if3 .left) (known (c .before .r2 .given .1) (c .before .before .before .element .ensures))
 
 abbrev element-calls : ℕ → element-lts.Claims
 element-calls t = (start-tag-reads.Asked, start-tag-reads.Learnt, content-below t, content.Post)

@@ -1,6 +1,5 @@
 -- `declared` meets its contract: the declaration, filler and the root, one law for each return.
 use native.Mathlib.Omega.{arith}
-use Rattle.grammar.specs.Filler.{prolog}
 use Rattle.scan.proofs.Chain.{known}
 use Rattle.reader.specs.Outline.{childOf}
 use Rattle.reader.specs.Message.{declaredLead}
@@ -35,10 +34,10 @@ returns-2 : tie.Need-returns-2
 returns-2 c = inner-fails childOf declaredLead _ _ _ _ (c .without2 .ensures) (c .before .match2 .keys2) (declared-filler-fails _ _ _ (known (c .before .before .before .before .r .given .1) (c .before .before .before .before .before .before .declaration .ensures)) (c .before .match2 .keys2) (c .before .before .filler-lt .ensures))
 
 root-requires : tie.Need-root-requires
-root-requires c κs = let g = known-filler (c .before .before .r2 .given .1) (c .before .before .before .before .filler-lt .ensures) prolog in omega arith
+root-requires c κs = let g = known-filler (c .before .before .r2 .given .1) (c .before .before .before .before .filler-lt .ensures) in omega arith
 
 returns-3 : tie.Need-returns-3
-returns-3 c = declared-read _ _ _ (known (c .before .before .before .before .before .before .before .r .given .1) (c .before .before .before .before .before .before .before .before .before .declaration .ensures)) _ (known-filler (c .before .before .before .r2 .given .1) (c .before .before .before .before .before .filler-lt .ensures) prolog) (c .root .ensures)
+returns-3 c = declared-read _ _ _ (known (c .before .before .before .before .before .before .before .r .given .1) (c .before .before .before .before .before .before .before .before .before .declaration .ensures)) _ (known-filler (c .before .before .before .r2 .given .1) (c .before .before .before .before .before .filler-lt .ensures)) (c .root .ensures)
 
 pub declared-spec : {M : Type 1} → statement M
 declared-spec =

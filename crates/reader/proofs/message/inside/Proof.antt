@@ -1,6 +1,5 @@
 -- `inside` meets its contract: the child, filler and the end tag, one law for each return.
 use native.Mathlib.Omega.{arith}
-use Rattle.grammar.specs.Filler.{root}
 use Rattle.scan.proofs.Chain.{known}
 use Rattle.reader.proofs.elements.Laws.{known-filler}
 use Rattle.reader.proofs.message.Laws.{inside-child-fails, inside-filler-fails, inside-read}
@@ -36,13 +35,13 @@ returns-2 : tie.Need-returns-2
 returns-2 c = inside-filler-fails _ _ _ _ _ _ _ _ (c .before .before .before .before .r .given .1) (c .before .before .before .before .before .before .child-at .ensures) (c .ended2 .ensures) (c .before .match2 .keys2) (c .before .before .filler-lt .ensures)
 
 end-tag-requires : tie.Need-end-tag-requires
-end-tag-requires c κs = let g = known-filler (c .before .r2 .given .1) (c .before .before .before .filler-lt .ensures) root in let p = c .before .before .before .before .before .before .before .before .before .before .pre in (omega arith, p .1, p .2)
+end-tag-requires c κs = let g = known-filler (c .before .r2 .given .1) (c .before .before .before .filler-lt .ensures) in let p = c .before .before .before .before .before .before .before .before .before .before .pre in (omega arith, p .1, p .2)
 
 ended-requires-3 : tie.Need-ended-requires-3
 ended-requires-3 c κs = search needs
 
 returns-3 : tie.Need-returns-3
-returns-3 c = inside-read _ _ _ _ _ _ _ _ (c .before .before .before .before .before .before .before .r .given .1) (c .before .before .before .before .before .before .before .before .before .child-at .ensures) (c .ended3 .ensures) _ (known-filler (c .before .before .before .r2 .given .1) (c .before .before .before .before .before .filler-lt .ensures) root) (c .before .end-tag .ensures)
+returns-3 c = inside-read _ _ _ _ _ _ _ _ (c .before .before .before .before .before .before .before .r .given .1) (c .before .before .before .before .before .before .before .before .before .child-at .ensures) (c .ended3 .ensures) _ (known-filler (c .before .before .before .r2 .given .1) (c .before .before .before .before .before .filler-lt .ensures)) (c .before .end-tag .ensures)
 
 pub inside-spec : {M : Type 1} → statement M
 inside-spec =

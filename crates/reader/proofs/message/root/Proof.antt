@@ -1,6 +1,5 @@
 -- `root` meets its contract: `Hermes`, its tag, filler, and what is inside, one law for each return.
 use native.Mathlib.Omega.{arith}
-use Rattle.grammar.specs.Filler.{root}
 use Rattle.scan.proofs.Chain.{known}
 use Rattle.reader.specs.Outline.{innerOf, rootLead}
 use Rattle.reader.proofs.elements.Laws.{known-filler, known-head}
@@ -49,10 +48,10 @@ returns-3 : tie.Need-returns-3
 returns-3 c = inner-fails innerOf rootLead _ _ _ _ (c .without3 .ensures) (c .before .match3 .keys2) (root-filler-fails _ _ _ (known (c .before .before .before .before .before .before .before .before .before .r .given .1) (c .before .before .before .before .before .before .before .before .before .before .before .literal .ensures)) _ (known-head (c .before .before .before .before .r2 .given .1) (c .before .before .before .before .before .before .head .ensures)) (c .before .match3 .keys2) (c .before .before .filler-lt .ensures))
 
 inside-requires : tie.Need-inside-requires
-inside-requires c κs = let g = known (c .before .before .before .before .before .before .before .before .before .before .before .r .given .1) (c .before .before .before .before .before .before .before .before .before .before .before .before .before .literal .ensures) in let h = known-filler (c .before .before .r3 .given .1) (c .before .before .before .before .filler-lt .ensures) root in (omega arith, omega arith, omega arith)
+inside-requires c κs = let g = known (c .before .before .before .before .before .before .before .before .before .before .before .r .given .1) (c .before .before .before .before .before .before .before .before .before .before .before .before .before .literal .ensures) in let h = known-filler (c .before .before .r3 .given .1) (c .before .before .before .before .filler-lt .ensures) in (omega arith, omega arith, omega arith)
 
 returns-4 : tie.Need-returns-4
-returns-4 c = root-read _ _ _ (known (c .before .before .before .before .before .before .before .before .before .before .before .before .r .given .1) (c .before .before .before .before .before .before .before .before .before .before .before .before .before .before .literal .ensures)) _ (known-head (c .before .before .before .before .before .before .before .r2 .given .1) (c .before .before .before .before .before .before .before .before .before .head .ensures)) _ (known-filler (c .before .before .before .r3 .given .1) (c .before .before .before .before .before .filler-lt .ensures) root) (c .inside .ensures)
+returns-4 c = root-read _ _ _ (known (c .before .before .before .before .before .before .before .before .before .before .before .before .r .given .1) (c .before .before .before .before .before .before .before .before .before .before .before .before .before .before .literal .ensures)) _ (known-head (c .before .before .before .before .before .before .before .r2 .given .1) (c .before .before .before .before .before .before .before .before .before .head .ensures)) _ (known-filler (c .before .before .before .r3 .given .1) (c .before .before .before .before .before .filler-lt .ensures)) (c .inside .ensures)
 
 pub root-spec : {M : Type 1} → statement M
 root-spec =

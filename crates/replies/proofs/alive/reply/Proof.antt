@@ -37,19 +37,19 @@ same-length : tie.Need-same-length
 same-length c = search needs
 
 returns : tie.Need-returns
-returns c = says-text (c .before .before .before .before .before .before .before .before .before .text-decode .ensures) (c .before .before .before .before .before .refusal-of .ensures) _ _ (c .before .before .before .before .before .before .text-part .ensures) (c .before .before .before .before .match .keys1) (c .before .before .reply-with .ensures)
+returns c = says-text _ (c .before .before .before .before .before .before .before .before .before .text-decode .ensures) (c .before .before .before .before .before .refusal-of .ensures) _ _ (c .before .before .before .before .before .before .text-part .ensures) (c .before .before .before .before .match .keys1) (c .before .before .reply-with .ensures)
 
 same-length-2 : tie.Need-same-length-2
 same-length-2 c = search needs
 
 returns-2 : tie.Need-returns-2
-returns-2 c = says-absent (c .before .before .before .before .before .before .before .before .before .text-decode .ensures) (c .before .before .before .before .before .refusal-of .ensures) (c .before .before .before .before .match .keys2) (c .before .before .reply-bare .ensures)
+returns-2 c = says-absent _ (c .before .before .before .before .before .before .before .before .before .text-decode .ensures) (c .before .before .before .before .before .refusal-of .ensures) (c .before .before .before .before .match .keys2) (c .before .before .reply-bare .ensures)
 
 returns-3 : tie.Need-returns-3
-returns-3 c = says-no-text (c .before .before .before .before .before .text-decode .ensures) (c .before .refusal-of .ensures) (c .match .keys3)
+returns-3 c = says-no-text _ (c .before .before .before .before .before .text-decode .ensures) (c .before .refusal-of .ensures) (c .match .keys3)
 
 returns-4 : tie.Need-returns-4
-returns-4 c = says-no-room (c .before .before .before .before .before .text-decode .ensures) (c .before .refusal-of .ensures) refl (c .match .rest)
+returns-4 c = says-no-room _ (c .before .before .before .before .before .text-decode .ensures) (c .before .refusal-of .ensures) refl (c .match .rest)
 
 pub reply-spec : {M : Type 1} → statement M
 reply-spec =

@@ -6,10 +6,6 @@ use Rattle.replies.proofs.ReplyLaws.{withAlive, built}
 use borrow.Author.Needs.{needs}
 use Rattle.replies.proofs.alive.reply_with.Statement.{statement}
 use Rattle.replies.proofs.alive.reply_with.Tie as tie
-use Rattle.replies.proofs.alive.reply_with.Reads as reads
-use Rattle.replies.proofs.alive.reply_with.Lts as lts
-use Rattle.emit.proofs.write.Reads as write-reads
-use Rattle.message.proofs.blank.Reads as blank-reads
 
 blank-requires : tie.Need-blank-requires
 blank-requires c κs = search needs

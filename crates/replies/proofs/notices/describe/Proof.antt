@@ -6,10 +6,6 @@ use Rattle.replies.proofs.ReplyLaws.{withNotice, built}
 use borrow.Author.Needs.{needs}
 use Rattle.replies.proofs.notices.describe.Statement.{statement}
 use Rattle.replies.proofs.notices.describe.Tie as tie
-use Rattle.replies.proofs.notices.describe.Reads as reads
-use Rattle.replies.proofs.notices.describe.Lts as lts
-use Rattle.emit.proofs.write.Reads as write-reads
-use Rattle.message.proofs.blank.Reads as blank-reads
 
 blank-requires : tie.Need-blank-requires
 blank-requires c κs = search needs

@@ -1,6 +1,6 @@
 -- Each number has its description.
 use mathlib.Core.Path.{ap}
-use Rattle.writer.specs.Notices.{description}
+use Rattle.meant.specs.Notices.{description}
 use Rattle.replies.proofs.ReplyLaws.{notified, undescribed}
 use borrow.Author.Needs.{needs}
 use Rattle.replies.proofs.notices.notify.Statement.{statement}

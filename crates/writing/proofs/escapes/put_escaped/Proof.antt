@@ -5,9 +5,9 @@ use denote.Ref.{now}
 use lib.ListN.{length, take}
 use lib.Seq.{take-all}
 use Rattle.writing.specs.Written.{escape}
-use Rattle.writing.specs.Put.{Wrote}
+use Rattle.printing.specs.Put.{Wrote}
 use Rattle.writing.proofs.EscapeLaws.{escape-more, escape-fits}
-use Rattle.writing.specs.Writes.{wrote-none, _then_}
+use Rattle.printing.specs.Writes.{wrote-none, _then_}
 use Rattle.writing.proofs.escapes.put_escaped.Statement.{statement}
 use Rattle.writing.proofs.escapes.put_escaped.Tie as tie
 

@@ -3,7 +3,7 @@ use mathlib.Core.Path.{_∙_}
 use native.Mathlib.Omega.{arith}
 use lib.ListN.{length-append}
 use Rattle.writing.specs.Written.{printDecimal}
-use Rattle.writing.specs.Writes.{_then_}
+use Rattle.printing.specs.Writes.{_then_}
 use Rattle.writing.proofs.numbers.put_decimal.Statement.{statement}
 use Rattle.writing.proofs.numbers.put_decimal.Tie as tie
 

@@ -2,7 +2,7 @@
 use mathlib.Core.Path.{ap, _∙_}
 use native.Mathlib.Omega.{arith}
 use lib.ListN.{length}
-use Rattle.writing.specs.Writes.{wrote-none, _then_}
+use Rattle.printing.specs.Writes.{wrote-none, _then_}
 use Rattle.writing.proofs.DecimalLaws.{Cutting, cutting-start, cutting-some, cutting-more, cutting-end, cut-nothing}
 use Rattle.writing.proofs.numbers.put_part.Statement.{statement}
 use Rattle.writing.proofs.numbers.put_part.Tie as tie

@@ -1,0 +1,65 @@
+// What decoded bytes are worth.
+use crate::line::byte;
+use crate::show::put;
+use crate::show::told;
+use number::IntScan;
+use number::NumberRead;
+use number::WholeRead;
+
+fn whole(r: WholeRead) {
+    let WholeRead::Is(below, size) = r else {
+        put(b"bad\n");
+        return;
+    };
+    if below {
+        put(b"-");
+    }
+    told(b"", size as u64);
+    put(b"\n");
+}
+
+fn positive(r: NumberRead) {
+    if r.ok {
+        told(b"", r.millionths);
+        put(b"\n");
+    } else {
+        put(b"bad\n");
+    }
+}
+
+fn yes(is: bool) {
+    if is {
+        put(b"yes\n");
+    } else {
+        put(b"no\n");
+    }
+}
+
+fn scan(start: IntScan, v: &[u8], from: usize, to: usize) -> IntScan {
+    let mut s = start;
+    let mut i = from;
+    while i < to {
+        s = s.step(byte(v, i));
+        i += 1;
+    }
+    s
+}
+
+// An Int whose bytes stand in two places.
+fn in_two(v: &[u8], cut: usize) {
+    let start = IntScan::start();
+    let half = scan(start, v, 0, cut);
+    let all = scan(half, v, cut, v.len());
+    whole(all.end());
+}
+
+/// `int`, `number`, `guid`, `version`, and `two CUT`: an Int whose first bytes stand apart.
+pub fn worth(letter: u8, v: &[u8], cut: usize) {
+    match letter {
+        b'i' => whole(number::int_of(v)),
+        b'n' => positive(number::number_of(v)),
+        b'g' => yes(number::is_guid(v)),
+        b'v' => yes(number::is_version(v)),
+        _ => in_two(v, cut),
+    }
+}

@@ -1,3 +1,0 @@
-pub mod PieceLaws
-pub mod WholeLaws
-pub mod WriteLaws

@@ -1,4 +1,0 @@
-pub mod NumberLaws
-pub mod MessageLaws
-pub mod RoundTrip
-pub mod Theorems

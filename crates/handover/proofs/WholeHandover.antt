@@ -1,0 +1,176 @@
+-- A whole handover: whatever meets the promises of `send` and `receive`, with room, goes line by line as document 01 says; and such calls exist.
+use mathlib.Core.Path.{_≡_, refl, sym, ap, subst, _∙_}
+use mathlib.Core.List.{List, [], _∷_, _++_}
+use mathlib.Core.Bool.{true, false}
+use mathlib.Core.Logic.{_⊎_, inl, inr}
+use Prim.Native.Nat.{ℕ}
+use native.Mathlib.Omega.{arith}
+use lib.ListN.{take, replicate, length-replicate}
+use Rattle.grammar.specs.Bytes.{Bytes, text, within}
+use Rattle.grammar.specs.Character.{isChar}
+use Rattle.model.specs.Characters.{plainByte, charP}
+use Rattle.number.specs.Bytes.{hex, digit, all as every, before, behind, pointed}
+use Rattle.number.specs.Guid.{guidOf, filled, may}
+use Rattle.number.specs.Version.{oneToThree, versionOf}
+use Rattle.writing.specs.Decided.{isText, textFrom}
+use Rattle.lane.specs.Names.{U, D, NotConnected, Both, Unknown, ServiceDescription, BoardAvailable, MachineReady, StartTransport, StopTransport, TransportFinished, NoOrder}
+use Rattle.lane.specs.Chart.{chart, byRows, next}
+use Rattle.lane.specs.Record.{noId, fresh, other, sent}
+use Rattle.lane.specs.Laws.{same-refl}
+use Rattle.lane.specs.Belt.{start-sent}
+use Rattle.lane.specs.declared.Lane.{Lane}
+use Rattle.lane.specs.declared.Moved.{Moved}
+use Rattle.value.specs.declared.text.Words.the-variants.{Absent as NoWords, Present as IsWords}
+use Rattle.table.specs.Table.{table, rowsOf}
+use Rattle.message.specs.Fields.{Field, aWords, aWhole, aMeasure, aGuid, aFeatures, messageFrom}
+use Rattle.message.specs.declared.values.Whole.the-variants.{Present as IsWhole}
+use Rattle.message.specs.declared.values.Measure.the-variants.{Absent as NoMeasure}
+use Rattle.message.specs.declared.kinds.Message.{Message}
+use Rattle.message.specs.Fields.{fieldsOf}
+use Rattle.meant.specs.Meant.{meantBy, meantOf, refusalOf}
+use Rattle.meant.specs.Written.{writtenOf}
+use Rattle.handover.specs.Ids.{boardId}
+use Rattle.handover.specs.Mirror.{Mirrored}
+use Rattle.handover.specs.Sending.{movedBy}
+use Rattle.handover.specs.Exchange.{Passing, Passes, Line, Said, fromU, fromD, lineOf, laneAt, Says, Exchanges, Goes, AllGo, handover}
+use Rattle.handover.specs.declared.sending.Sent.{Sent}
+use Rattle.handover.proofs.OneHandover.{one-handover}
+use Rattle.handover.proofs.Theorems as all
+use Rattle.handover.proofs.Totals.{receive-total, send-total}
+
+-- the chart leads a sender's lane from one line to the next
+abbrev Leads : ℕ → Line → Line → Type 0
+Leads side x y = sent (laneAt side x) (y .event) ≡ record { refusal = 0; lane = laneAt side y; order = y .order }
+
+lane-is : (l : Lane) {side state : ℕ} {offered running : Bytes} → l .side ≡ side → l .state ≡ state → l .offered ≡ offered → l .running ≡ running → l ≡ record { side = side; state = state; offered = offered; running = running }
+lane-is l a b c d = rw (← a, ← b, ← c, ← d) refl
+
+-- one line
+module _ (side : ℕ) (our : (side ≡ U) ⊎ (side ≡ D)) (x y : Line) (p : Passing) (m : Says y (p .message)) (w : Passes (laneAt side x) (laneAt (other side) x) p) (e : Leads side x y) where
+  moved-is : movedBy (laneAt side x) (p .message) ≡ record { refusal = 0; lane = laneAt side y; order = y .order }
+  moved-is = ap (sent (laneAt side x)) m ∙ e
+
+  mirrored : Mirrored (laneAt side x) (laneAt (other side) x)
+  mirrored = record { ours = our; theirs = refl; state = refl; offered = refl; running = refl }
+
+  accepted : (p .sent .refusal ≡ 0) × (p .sent .order ≡ y .order) × (p .sent .lane ≡ laneAt side y)
+  accepted = go (all.decides (w .sends))
+    where
+      go : all.Decides (laneAt side x) (p .message) (p .texts) (p .out) (p .filled) (p .sent) → (p .sent .refusal ≡ 0) × (p .sent .order ≡ y .order) × (p .sent .lane ≡ laneAt side y)
+      go (all.refused-by n q f) = absurd (n (w .good))
+      go (all.may-not a n q f) = absurd (n (ap (λ (v : Moved). v .refusal) moved-is))
+      go (all.lacks-room a b h q f) = absurd (let z = w .fits in omega arith)
+      go (all.goes a b h q f) = (ap (λ (r : Sent). r .refusal) q, ap (λ (r : Sent). r .order) q ∙ ap (λ (v : Moved). v .order) moved-is, ap (λ (r : Sent). r .lane) q ∙ ap (λ (v : Moved). v .lane) moved-is)
+
+  line-goes : Goes side y p
+  line-goes =
+      let (z, o, l) = accepted in
+      let (g, n, q, u) = one-handover (p .rest) mirrored (w .sends) z (w .receives) (w .wide) in
+      record {
+        sent = z;
+        got = g;
+        sent-order = o;
+        got-order = q ∙ o;
+        sent-lane = l;
+        got-lane = lane-is (p .got .lane) (n .theirs ∙ ap (λ (l : Lane). other (l .side)) l) (n .state ∙ ap (λ (l : Lane). l .state) l) (n .offered ∙ ap (λ (l : Lane). l .offered) l) (n .running ∙ ap (λ (l : Lane). l .running) l);
+        used = u;
+      }
+
+-- line by line
+abbrev AllLead : Line → List Said → Type 0
+AllLead x [] = Unit {0}
+AllLead x (fromU y ∷ ys) = Leads U x y × AllLead y ys
+AllLead x (fromD y ∷ ys) = Leads D x y × AllLead y ys
+
+all-go : (x : Line) (ys : List Said) (ps : List Passing) → AllLead x ys → Exchanges (laneAt U x) (laneAt D x) ys ps → AllGo ys ps
+all-go x [] [] h e = tt
+all-go x [] (p ∷ ps) h e = absurd e
+all-go x (y ∷ ys) [] h e = absurd e
+all-go x (fromU y ∷ ys) (p ∷ ps) (h, hs) (m, w, e) =
+    let g = line-goes U (inl refl) x y p m w h in
+    (g, all-go y ys ps hs (subst (λ (l : Lane). Exchanges (laneAt U y) l ys ps) (g .got-lane) (subst (λ (l : Lane). Exchanges l (p .got .lane) ys ps) (g .sent-lane) e)))
+all-go x (fromD y ∷ ys) (p ∷ ps) (h, hs) (m, w, e) =
+    let g = line-goes D (inr refl) x y p m w h in
+    (g, all-go y ys ps hs (subst (λ (l : Lane). Exchanges (laneAt U y) l ys ps) (g .sent-lane) (subst (λ (l : Lane). Exchanges l (p .sent .lane) ys ps) (g .got-lane) e)))
+
+-- before the first line
+abbrev new : Line
+new = record { event = record { kind = Unknown; id = noId }; state = NotConnected; offered = noId; running = noId; order = NoOrder }
+
+handover-leads : (id : Bytes) → AllLead new (handover id)
+unfolding sent next byRows chart
+handover-leads id = (refl, (refl, (refl, (refl, (start-sent (record { side = D; state = Both; offered = id; running = noId }) (record { kind = StartTransport; id = id }) refl refl refl refl, (rw (same-refl id) refl, (rw (same-refl id) refl, tt)))))))
+
+-- from two new lanes each of the seven messages is accepted by both sides; the belt runs on both sides at StartTransport, and only there; both lanes end in Idle without an id
+pub whole-handover : (id : Bytes) (ps : List Passing) → Exchanges (fresh U) (fresh D) (handover id) ps → AllGo (handover id) ps
+whole-handover id ps e = all-go new (handover id) ps (handover-leads id) e
+
+-- messages of the lines, with the texts "1.6"
+abbrev pub texts : Bytes
+texts = text "1.6"
+
+abbrev words : Field
+words = aWords (IsWords (record { start = 0; len = 3 }))
+
+abbrev board : Bytes
+board = text "aaaaaaaa-aaaa-aaaa-aaaa-aaaaaaaaaaaa"
+
+abbrev id : Field
+id = aGuid (record { there = true; bytes = board })
+
+abbrev none : Field
+none = aMeasure NoMeasure
+
+abbrev pub service : Message
+service = messageFrom ServiceDescription (words ∷ aWhole (IsWhole 1) ∷ words ∷ aFeatures (record { there = true; forecast = false; query = false; send = false }) ∷ [])
+
+abbrev offer : Message
+offer = messageFrom BoardAvailable (id ∷ words ∷ aWhole (IsWhole 1) ∷ aWords NoWords ∷ aWhole (IsWhole 0) ∷ aWords NoWords ∷ aWords NoWords ∷ none ∷ none ∷ none ∷ none ∷ none ∷ none ∷ none ∷ aWords NoWords ∷ [])
+
+abbrev samples : List Message
+samples =
+    service
+    ∷ service
+    ∷ offer
+    ∷ messageFrom MachineReady (aWhole (IsWhole 1) ∷ [])
+    ∷ messageFrom StartTransport (id ∷ none ∷ [])
+    ∷ messageFrom TransportFinished (aWhole (IsWhole 3) ∷ id ∷ [])
+    ∷ messageFrom StopTransport (aWhole (IsWhole 3) ∷ id ∷ [])
+    ∷ []
+
+abbrev Fine : List Said → List Message → Type 0
+Fine [] [] = Unit {0}
+Fine [] (m ∷ ms) = ⊥
+Fine (x ∷ xs) [] = ⊥
+Fine (x ∷ xs) (m ∷ ms) = Says (lineOf x) m × (refusalOf m texts ≡ 0) × Fine xs ms
+
+samples-fine : Fine (handover board) samples
+unfolding messageFrom boardId fieldsOf rowsOf table meantOf meantBy within isText textFrom charP plainByte isChar guidOf filled may hex digit versionOf oneToThree every before behind pointed
+samples-fine = (refl, refl, (refl, refl, (refl, refl, (refl, refl, (refl, refl, (refl, refl, (refl, refl, tt)))))))
+
+pub service-good : refusalOf service texts ≡ 0
+service-good = samples-fine .1
+
+-- calls that pass a message, into buffers with room
+passing : (l l′ : Lane) (m : Message) → refusalOf m texts ≡ 0 → (p : Passing) × (p .message ≡ m) × Passes l l′ p
+passing l l′ m z =
+    let (filled, r, s) = send-total l m texts (writtenOf m texts) in
+    let (replied, g, q) = receive-total l′ (take (r .written) filled ++ []) (replicate 525 0) in
+    (record { message = m; texts = texts; out = writtenOf m texts; filled = filled; sent = r; rest = []; back = replicate 525 0; replied = replied; got = g }, refl, record { sends = s; receives = q; good = z; fits = omega arith; wide = let n = length-replicate {A = ℕ} 525 0 in omega arith })
+
+exchange : (u d : Lane) (xs : List Said) (ms : List Message) → Fine xs ms → (ps : List Passing) × Exchanges u d xs ps
+exchange u d [] [] h = ([], tt)
+exchange u d [] (m ∷ ms) h = absurd h
+exchange u d (x ∷ xs) [] h = absurd h
+exchange u d (fromU x ∷ xs) (m ∷ ms) (s, z, h) =
+    let (p, q, w) = passing u d m z in
+    let (ps, e) = exchange (p .sent .lane) (p .got .lane) xs ms h in
+    (p ∷ ps, (subst (Says x) (sym q) s, w, e))
+exchange u d (fromD x ∷ xs) (m ∷ ms) (s, z, h) =
+    let (p, q, w) = passing d u m z in
+    let (ps, e) = exchange (p .got .lane) (p .sent .lane) xs ms h in
+    (p ∷ ps, (subst (Says x) (sym q) s, w, e))
+
+-- what `whole-handover` asks for can be met
+pub handover-met : (ps : List Passing) × Exchanges (fresh U) (fresh D) (handover board) ps
+handover-met = exchange (fresh U) (fresh D) (handover board) samples samples-fine

@@ -1,0 +1,68 @@
+-- The loop of the program is a chain of turns.
+use mathlib.Core.Path.{_≡_, refl, subst}
+use mathlib.Core.List.{[], _++_}
+use mathlib.Core.Bool.{Bool, true, false}
+use Prim.Native.Nat.{ℕ, zero, suc, _+_, _≤_}
+use native.Mathlib.Omega.{arith}
+use lib.ListN.{length, take}
+use Rattle.grammar.specs.Bytes.{Bytes}
+use Rattle.listing.specs.Held.{Held, ToppedUp, Turned}
+use Rattle.listing.specs.Printed.{left}
+use Rattle.listing.specs.Turns.{At, start, Turn, gives, Past, past-start, past-turn, TURNS, Ended, Unended}
+use Rattle.listing.specs.declared.window.Window.{Window}
+use Rattle.listing.specs.declared.Stand.{Stand}
+
+-- where the loop is
+abbrev pub at : Window → Bytes → ℕ → Bytes → At
+at w buf waiting out = record { window = w; buf = buf; waiting = waiting; out = out }
+
+-- the turns that are made have led there; `turns` are left
+pub record Going (turns : ℕ) (w : Window) (buf : Bytes) (waiting : ℕ) (out : Bytes) : Type 0 where
+  pub held : Held w (length buf)
+  pub waits : waiting ≤ length out
+  pub k : ℕ
+  pub input : Bytes
+  pub given : Bytes
+  pub past : Past k input given (at w buf waiting out)
+  pub counted : turns + k ≡ TURNS
+
+pub going-start : (buf out : Bytes) → Going TURNS (start buf out .window) buf 0 out
+going-start buf out = record { held = record { front = omega arith; back = omega arith }; waits = omega arith; k = zero; input = []; given = []; past = past-start buf out; counted = omega arith }
+
+-- a turn of the loop
+module _ {turns : ℕ} {w v : Window} {buf out new printed : Bytes} {waiting r : ℕ} {s : Stand} (g : Going turns w buf waiting out) (t : ToppedUp w buf v new) (e : r ≡ left (length out) waiting) (u : Turned new v out r printed s) where
+  abbrev turn : {done : Bool} → s .done ≡ done → Turn (at w buf waiting out) done (at (s .window) new (s .waiting) printed)
+  turn {done} d = record {
+    held = v;
+    topped = t;
+    turned = subst (λ (z : Bool). Turned new v out (left (length out) waiting) printed (record { window = s .window; waiting = s .waiting; done = z })) d (subst (λ (k : ℕ). Turned new v out k printed s) e u);
+  }
+
+  pub going-on : (rest : ℕ) → turns ≡ rest + 1 → s .done ≡ false → Going rest (s .window) new (s .waiting) printed
+  going-on rest h d = record {
+    held = u .held;
+    waits = u .printed .inside;
+    k = suc (g .k);
+    input = g .input ++ t .more;
+    given = g .given ++ gives (at w buf waiting out);
+    past = past-turn (g .past) (turn d);
+    counted = omega (arith, g .counted);
+  }
+
+  pub going-ends : s .done ≡ true → Ended printed
+  going-ends d = record {
+    input = g .input ++ t .more;
+    text = (g .given ++ gives (at w buf waiting out)) ++ take (s .waiting) printed;
+    finished = record { k = g .k; before = g .input; given = g .given; a = at w buf waiting out; b = at (s .window) new (s .waiting) printed; past = g .past; turn = turn d; read = refl; whole = refl };
+    holds = refl;
+  }
+
+-- no turn is left
+pub going-out : {turns : ℕ} {w : Window} {buf out : Bytes} {waiting : ℕ} → Going turns w buf waiting out → turns ≡ 0 → Unended out
+going-out {w = w} {buf} {out} {waiting} g h = record {
+  input = g .input;
+  given = g .given;
+  a = at w buf waiting out;
+  past = subst (λ (k : ℕ). Past k (g .input) (g .given) (at w buf waiting out)) (omega (arith, g .counted)) (g .past);
+  holds = refl;
+}

@@ -1,0 +1,10 @@
+pub mod WidthLaws
+pub mod ValueLaws
+pub mod RowLaws
+pub mod ElementLaws
+pub mod BuildLaws
+pub mod MessageLaws
+pub mod SizeLaws
+pub mod LargestLaws
+pub mod NoticeLaws
+pub mod Theorems

@@ -1,0 +1,84 @@
+-- The bytes that are written for a message.
+use mathlib.Core.List.{List, [], _∷_, _++_}
+use mathlib.Core.Bool.{Bool, true, false, cond}
+use Prim.Native.Nat.{ℕ}
+use lib.Dec.{eqb}
+use Rattle.grammar.specs.Bytes.{Bytes, text, nonEmpty}
+use Rattle.printing.specs.Digits.{printInt}
+use Rattle.writing.specs.Written.{escape, printDecimal}
+use Rattle.value.specs.declared.text.Words.the-variants.{Absent as NoWords, Present as IsWords}
+use Rattle.table.specs.Table.{Row, Entry, table, rowsOf}
+use Rattle.message.specs.Fields.{Field, none, aWords, aWhole, aMeasure, aGuid, aFeatures, fieldsOf}
+use Rattle.message.specs.declared.values.Whole.the-variants.{Absent as NoWhole, Present as IsWhole}
+use Rattle.message.specs.declared.values.Measure.the-variants.{Absent as NoMeasure, Present as IsMeasure}
+use Rattle.message.specs.declared.values.Features.{Features}
+use Rattle.message.specs.declared.kinds.Message.{Message}
+use Rattle.meant.specs.Meant.{textAt}
+
+-- "one space before each attribute, double quotes": an attribute of the name n with the value v
+abbrev pub attribute : Bytes → Bytes → Bytes
+attribute n v = text " " ++ (n ++ (text "=\"" ++ (escape v ++ text "\"")))
+
+-- the attribute of a field, if it is there; features are a child
+unfoldable pub attributeOf : Bytes → Field → Bytes → Bytes
+attributeOf n none texts = []
+attributeOf n (aWords NoWords) texts = []
+attributeOf n (aWords (IsWords p)) texts = attribute n (textAt texts p)
+attributeOf n (aWhole NoWhole) texts = []
+attributeOf n (aWhole (IsWhole k)) texts = attribute n (printInt k)
+attributeOf n (aMeasure NoMeasure) texts = []
+attributeOf n (aMeasure (IsMeasure x)) texts = attribute n (printDecimal x)
+attributeOf n (aGuid g) texts = cond (g .there) (attribute n (g .bytes)) []
+attributeOf n (aFeatures f) texts = []
+
+-- "table order"
+unfoldable pub attributesOf : List Row → List Field → Bytes → Bytes
+attributesOf [] l texts = []
+attributesOf (r ∷ k) [] texts = []
+attributesOf (r ∷ k) (x ∷ l) texts = attributeOf (r .name) x texts ++ attributesOf k l texts
+
+-- "empty tags where nothing is inside"
+abbrev pub closed : Bytes → Bytes → Bytes
+closed n [] = text "/>"
+closed n (b ∷ c) = text ">" ++ ((b ∷ c) ++ (text "</" ++ (n ++ text ">")))
+
+abbrev pub emptyTag : Bytes → Bytes
+emptyTag n = text "<" ++ (n ++ text "/>")
+
+-- "features in the order named above"
+abbrev pub featuresInside : Features → Bytes
+featuresInside f =
+    cond (f .forecast) (emptyTag (text "FeatureBoardForecast")) []
+    ++ (cond (f .query) (emptyTag (text "FeatureQueryBoardInfo")) [] ++ cond (f .send) (emptyTag (text "FeatureSendBoardInfo")) [])
+
+unfoldable pub childOf : Bytes → Field → Bytes
+childOf n none = []
+childOf n (aWords w) = []
+childOf n (aWhole w) = []
+childOf n (aMeasure x) = []
+childOf n (aGuid g) = []
+childOf n (aFeatures f) = cond (f .there) (text "<" ++ (n ++ closed n (featuresInside f))) []
+
+unfoldable pub childrenOf : List Row → List Field → Bytes
+childrenOf [] l = []
+childrenOf (r ∷ k) [] = []
+childrenOf (r ∷ k) (x ∷ l) = childOf (r .name) x ++ childrenOf k l
+
+-- the name of a kind
+abbrev pub nameIn : List Entry → ℕ → Bytes
+nameIn [] k = []
+nameIn (e ∷ l) k = cond (eqb (e .kind) k) (e .name) (nameIn l k)
+
+unfoldable pub nameOf : ℕ → Bytes
+nameOf k = nameIn table k
+
+-- an element of a name with these rows and fields
+abbrev pub elementOf : Bytes → List Row → List Field → Bytes → Bytes
+elementOf n rows fields texts = text "<" ++ (n ++ (attributesOf rows fields texts ++ closed n (childrenOf rows fields)))
+
+-- "The writer: no declaration, no glue except one space before each attribute .."; of fields of a kind, and of a message
+abbrev pub writtenBy : ℕ → List Field → Bytes → Bytes
+writtenBy k fields texts = text "<Hermes>" ++ (elementOf (nameOf k) (rowsOf k) fields texts ++ text "</Hermes>")
+
+abbrev pub writtenOf : Message → Bytes → Bytes
+writtenOf m texts = writtenBy (m .kind) (fieldsOf m) texts

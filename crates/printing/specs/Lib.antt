@@ -1,0 +1,4 @@
+pub mod Digits
+pub mod Put
+pub mod Writes
+pub mod Examples

@@ -1,0 +1,151 @@
+-- Attributes of a tag, one by one, and the one of a name.
+use mathlib.Core.Path.{_≡_, refl, sym, ap, subst, _∙_}
+use mathlib.Core.List.{List, [], _∷_, _++_}
+use mathlib.Core.Bool.{Bool, true, false, cond}
+use Prim.Native.Nat.{ℕ, zero, suc, _+_, _-_, _*_, _≤_, _<_}
+use native.Mathlib.Omega.{arith}
+use lib.ListN.{length, length-append, length-drop, take, drop, getD}
+use Prim.Native.Char.{code}
+use Rattle.grammar.specs.Bytes.{Bytes, same}
+use Rattle.grammar.specs.Value.{spellValue}
+use Rattle.grammar.specs.Attribute.{Attribute, spellAttribute, spellAttributes, GoodEach, good-each}
+use Rattle.tags.specs.Places.{nameAt, nameEnd, valueAt, valueEnd, places}
+use Rattle.reader.specs.Parts.{AttributeAt, attribute-stands}
+use Rattle.value.specs.declared.text.Words.{Words}
+use Rattle.value.specs.declared.text.Words.the-variants.{Absent, Present}
+use Rattle.message.specs.Checked.{placeOf}
+use Rattle.reads.specs.Held.{Held, place}
+
+-- from row i on the table holds the attributes that are left, which stand from `at` on
+pub record Left (s : Bytes) (table : List ℕ) (count i : ℕ) (name : Bytes) (whole : Words) : Type 0 where
+  pub at : ℕ
+  pub attributes : List Attribute
+  pub after : Bytes
+  pub rest : List ℕ
+  pub good : GoodEach attributes
+  pub stand : drop at s ≡ spellAttributes attributes ++ after
+  pub rows : drop (4 * i) table ≡ places at attributes ++ rest
+  pub counts : count ≡ i + length attributes
+  pub same-place : whole ≡ placeOf at attributes name
+
+pub left-all : {s : Bytes} {table : List ℕ} {count : ℕ} (h : Held s table count) (name : Bytes) → Left s table count 0 name (place h name)
+left-all h name = record { at = h .at; attributes = h .attributes; after = h .after; rest = h .rest; good = h .good; stand = h .stand; rows = h .rows; counts = let z = h .counts in omega arith; same-place = refl }
+
+-- the row i, with its four places: what stands there, and what is left
+pub record RowAt (s : Bytes) (table : List ℕ) (count i : ℕ) (name : Bytes) (whole : Words) (from to start end : ℕ) : Type 0 where
+  pub long : 4 * i + 3 < length table
+  pub name-order : from ≤ to
+  pub name-in : to ≤ length s
+  pub value-order : start ≤ end
+  pub value-in : end ≤ length s
+  pub hit : same name (take (to - from) (drop from s)) ≡ true → whole ≡ Present (record { start = start; len = end - start })
+  pub miss : same name (take (to - from) (drop from s)) ≡ false → Left s table count (i + 1) name whole
+
+pub first-of : (t : List ℕ) (n x : ℕ) (l : List ℕ) → drop n t ≡ x ∷ l → (n < length t) × (getD t n 0 ≡ x) × (drop (n + 1) t ≡ l)
+first-of [] zero x l e = absurd (let z : _≡_ {A = ℕ} 0 1 = cc in omega arith)
+first-of [] (suc n) x l e = absurd (let z : _≡_ {A = ℕ} 0 1 = cc in omega arith)
+first-of (y ∷ t) zero x l e = (omega arith, cc, cc)
+first-of (y ∷ t) (suc n) x l e = let (a, b, c) = first-of t n x l e in let q : suc (n + 1) ≡ suc n + 1 = omega arith in (omega arith, b, subst (λ (m : ℕ). drop m (y ∷ t) ≡ l) q c)
+
+-- four numbers that stand one after the other
+record Four (t : List ℕ) (n a b c d : ℕ) (l : List ℕ) : Type 0 where
+  pub long : n + 3 < length t
+  pub one : getD t n 0 ≡ a
+  pub two : getD t (n + 1) 0 ≡ b
+  pub three : getD t (n + 2) 0 ≡ c
+  pub four : getD t (n + 3) 0 ≡ d
+  pub rest : drop (n + 4) t ≡ l
+
+four-of : (t : List ℕ) (n a b c d : ℕ) (l : List ℕ) → drop n t ≡ a ∷ b ∷ c ∷ d ∷ l → Four t n a b c d l
+four-of t n a b c d l e =
+    let (x₁, y₁, z₁) = first-of t n a (b ∷ c ∷ d ∷ l) e in
+    let (x₂, y₂, z₂) = first-of t (n + 1) b (c ∷ d ∷ l) z₁ in
+    let (x₃, y₃, z₃) = first-of t (n + 2) c (d ∷ l) (at-next 1 z₂) in
+    let (x₄, y₄, z₄) = first-of t (n + 3) d l (at-next 2 z₃) in
+    record { long = x₄; one = y₁; two = y₂; three = y₃; four = y₄; rest = at-next 3 z₄ }
+  where
+    at-next : (k : ℕ) {l : List ℕ} → drop (n + k + 1) t ≡ l → drop (n + (k + 1)) t ≡ l
+    at-next k {l} e = let q : n + k + 1 ≡ n + (k + 1) = omega arith in subst (λ (m : ℕ). drop m t ≡ l) q e
+
+-- an attribute that stands there has room for its value and a quote
+pub attribute-in : (s : Bytes) (at : ℕ) (a : Attribute) (l : List Attribute) (y : Bytes) → drop at s ≡ spellAttributes (a ∷ l) ++ y → valueEnd at a < length s
+attribute-in s at a l y e =
+    let v = spellValue (a .value) in
+    let tail = spellAttributes l ++ y in
+    let k : length (drop at s) ≡ length (spellAttribute a ++ spellAttributes l) + length y = ap length e ∙ length-append (spellAttribute a ++ spellAttributes l) y in
+    let m : length (spellAttribute a ++ spellAttributes l) ≡ length (spellAttribute a) + length (spellAttributes l) = length-append (spellAttribute a) (spellAttributes l) in
+    let n₁ : length (spellAttribute a) ≡ length (a .before) + length (a .name ++ (a .mid ++ code "=" ∷ (a .after ++ a .quote ∷ (v ++ a .quote ∷ [])))) = length-append (a .before) _ in
+    let n₂ : length (a .name ++ (a .mid ++ code "=" ∷ (a .after ++ a .quote ∷ (v ++ a .quote ∷ [])))) ≡ length (a .name) + length (a .mid ++ code "=" ∷ (a .after ++ a .quote ∷ (v ++ a .quote ∷ []))) = length-append (a .name) _ in
+    let n₃ : length (a .mid ++ code "=" ∷ (a .after ++ a .quote ∷ (v ++ a .quote ∷ []))) ≡ length (a .mid) + length (code "=" ∷ (a .after ++ a .quote ∷ (v ++ a .quote ∷ []))) = length-append (a .mid) _ in
+    let n₄ : length (a .after ++ a .quote ∷ (v ++ a .quote ∷ [])) ≡ length (a .after) + length (a .quote ∷ (v ++ a .quote ∷ [])) = length-append (a .after) _ in
+    let n₅ : length (v ++ a .quote ∷ []) ≡ length v + 1 = length-append v (a .quote ∷ []) in
+    let z = length-drop at s in
+    omega arith
+
+module _ (s : Bytes) (table : List ℕ) (count i : ℕ) (name : Bytes) (whole : Words) (at : ℕ) (a : Attribute) (l : List Attribute) (after : Bytes) (rest : List ℕ)
+    (good : GoodEach l)
+    (stand : drop at s ≡ spellAttributes (a ∷ l) ++ after)
+    (rows : drop (4 * i) table ≡ places at (a ∷ l) ++ rest)
+    (counts : count ≡ i + suc (length l))
+    (same-place : whole ≡ placeOf at (a ∷ l) name) where
+  stands : AttributeAt s at a (spellAttributes l ++ after)
+  stands = attribute-stands s at a l after stand
+
+  table-row : Four table (4 * i) (nameAt at a) (nameEnd at a) (valueAt at a) (valueEnd at a) (places (valueEnd at a + 1) l ++ rest)
+  unfolding places
+  table-row = four-of table (4 * i) (nameAt at a) (nameEnd at a) (valueAt at a) (valueEnd at a) (places (valueEnd at a + 1) l ++ rest) rows
+
+  placed : (z : Bool) → same name (take (nameEnd at a - nameAt at a) (drop (nameAt at a) s)) ≡ z → whole ≡ cond z (Present (record { start = valueAt at a; len = length (spellValue (a .value)) })) (placeOf (valueEnd at a + 1) l name)
+  unfolding placeOf
+  placed z e =
+      let f : same name (a .name) ≡ z = ap (λ (n : Bytes). same name n) (sym (stands .name)) ∙ e in
+      same-place ∙ ap (λ (z : Bool). cond z (Present (record { start = valueAt at a; len = length (spellValue (a .value)) })) (placeOf (valueEnd at a + 1) l name)) f
+
+  this-row : RowAt s table count i name whole (nameAt at a) (nameEnd at a) (valueAt at a) (valueEnd at a)
+  this-row = record {
+    long = table-row .long;
+    name-order = omega arith;
+    name-in = let z = attribute-in s at a l after stand in omega arith;
+    value-order = omega arith;
+    value-in = let z = attribute-in s at a l after stand in omega arith;
+    hit = λ e. let q : length (spellValue (a .value)) ≡ valueEnd at a - valueAt at a = omega arith in placed true e ∙ ap (λ (n : ℕ). Present (record { start = valueAt at a; len = n })) q;
+    miss = λ e. record {
+      at = valueEnd at a + 1;
+      attributes = l;
+      after = after;
+      rest = rest;
+      good = good;
+      stand = stands .next;
+      rows = let q : 4 * i + 4 ≡ 4 * (i + 1) = omega arith in subst (λ (n : ℕ). drop n table ≡ places (valueEnd at a + 1) l ++ rest) q (table-row .rest);
+      counts = omega arith;
+      same-place = placed false e;
+    };
+  }
+
+  by-table : RowAt s table count i name whole (getD table (4 * i) 0) (getD table (4 * i + 1) 0) (getD table (4 * i + 2) 0) (getD table (4 * i + 3) 0)
+  by-table =
+      subst (λ (x : ℕ). RowAt s table count i name whole x (getD table (4 * i + 1) 0) (getD table (4 * i + 2) 0) (getD table (4 * i + 3) 0)) (sym (table-row .one))
+      (subst (λ (x : ℕ). RowAt s table count i name whole (nameAt at a) x (getD table (4 * i + 2) 0) (getD table (4 * i + 3) 0)) (sym (table-row .two))
+      (subst (λ (x : ℕ). RowAt s table count i name whole (nameAt at a) (nameEnd at a) x (getD table (4 * i + 3) 0)) (sym (table-row .three))
+      (subst (λ (x : ℕ). RowAt s table count i name whole (nameAt at a) (nameEnd at a) (valueAt at a) x) (sym (table-row .four)) this-row)))
+
+each-but : {a : Attribute} {l : List Attribute} → GoodEach (a ∷ l) → GoodEach l
+each-but (good-each g r) = r
+
+pub row-at : {s : Bytes} {table : List ℕ} {count i : ℕ} {name : Bytes} {whole : Words} → Left s table count i name whole → i < count
+    → RowAt s table count i name whole (getD table (4 * i) 0) (getD table (4 * i + 1) 0) (getD table (4 * i + 2) 0) (getD table (4 * i + 3) 0)
+row-at {s} {table} {count} {i} {name} {whole} f k = go (f .attributes) (f .good) (f .stand) (f .rows) (f .counts) (f .same-place)
+  where
+    go : (l : List Attribute) → GoodEach l → drop (f .at) s ≡ spellAttributes l ++ f .after → drop (4 * i) table ≡ places (f .at) l ++ f .rest → count ≡ i + length l → whole ≡ placeOf (f .at) l name
+        → RowAt s table count i name whole (getD table (4 * i) 0) (getD table (4 * i + 1) 0) (getD table (4 * i + 2) 0) (getD table (4 * i + 3) 0)
+    go [] g a b c d = absurd (omega arith)
+    go (x ∷ l) g a b c d = by-table s table count i name whole (f .at) x l (f .after) (f .rest) (each-but g) a b c d
+
+-- behind the last row there is none of the name
+pub none-left : {s : Bytes} {table : List ℕ} {count i : ℕ} {name : Bytes} {whole : Words} → Left s table count i name whole → count ≤ i → Absent ≡ whole
+unfolding placeOf
+none-left {count = count} {i = i} {name = name} {whole = whole} f k = go (f .attributes) (f .counts) (f .same-place)
+  where
+    go : (l : List Attribute) → count ≡ i + length l → whole ≡ placeOf (f .at) l name → Absent ≡ whole
+    go [] c d = sym d
+    go (x ∷ l) c d = absurd (omega arith)

@@ -1,0 +1,14 @@
+pub mod FindLaws
+pub mod PlaceLaws
+pub mod FieldLaws
+pub mod JudgeLaws
+pub mod ChildLaws
+pub mod RowLaws
+pub mod TableLaws
+pub mod IdLaws
+pub mod LoopLaws
+pub mod OutlineLaws
+pub mod WholeLaws
+pub mod HandLaws
+pub mod CheckLaws
+pub mod Theorems

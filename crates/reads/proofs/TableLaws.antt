@@ -1,0 +1,53 @@
+-- What holds of the rows of every kind: computed over the table.
+use mathlib.Core.Path.{_≡_, refl, sym, ap, _∙_}
+use mathlib.Core.List.{List, [], _∷_}
+use mathlib.Core.Bool.{Bool, true, false, _&&_, not, cond}
+use Prim.Native.Nat.{ℕ, _≤_}
+use native.Mathlib.Omega.{arith}
+use lib.ListN.{length}
+use lib.Dec.{leb, eqb}
+use borrow.Author.Tests.{leb-true}
+use Rattle.exact.specs.Chain.{clash}
+use Rattle.table.specs.Table.{Row, Entry, table, rowsIn, rowsOf}
+use Rattle.rows.specs.Coding.{RowsAt}
+use Rattle.rows.specs.declared.data.Range.{Range}
+use Rattle.rows.proofs.CodingLaws.{length-rows}
+use Rattle.message.specs.Cells.{ROWS}
+use Rattle.reads.specs.Ids.{isGuid}
+
+pub both : (a b : Bool) → a && b ≡ true → (a ≡ true) × (b ≡ true)
+both true b e = (refl, e)
+both false b e = clash (sym e)
+
+-- what holds of the rows of each entry holds of the rows of each kind
+abbrev each : (List Row → Bool) → List Entry → Bool
+each f [] = true
+each f (e ∷ l) = f (e .rows) && each f l
+
+each-kind : (f : List Row → Bool) → f [] ≡ true → (l : List Entry) → each f l ≡ true → (k : ℕ) → f (rowsIn l k) ≡ true
+each-kind f z [] e k = z
+each-kind f z (x ∷ l) e k = let (a, b) = both (f (x .rows)) (each f l) e in go (eqb (x .kind) k) a (each-kind f z l b k)
+  where
+    go : (c : Bool) → f (x .rows) ≡ true → f (rowsIn l k) ≡ true → f (cond c (x .rows) (rowsIn l k)) ≡ true
+    go true a b = a
+    go false a b = b
+
+-- the cells of a kind have room, and at most one row of a kind is a GUID
+pub few-rows : (k : ℕ) → length (rowsOf k) ≤ ROWS
+unfolding rowsOf table
+few-rows k = leb-true _ _ (each-kind (λ l. leb (length l) ROWS) refl table refl k)
+
+abbrev pub noGuid : List Row → Bool
+noGuid [] = true
+noGuid (r ∷ l) = not (isGuid (r .form)) && noGuid l
+
+abbrev pub oneGuid : List Row → Bool
+oneGuid [] = true
+oneGuid (r ∷ l) = cond (isGuid (r .form)) (noGuid l) (oneGuid l)
+
+pub one-guid : (k : ℕ) → oneGuid (rowsOf k) ≡ true
+unfolding rowsOf table
+one-guid k = each-kind oneGuid refl table refl k
+
+pub room : {k : ℕ} {r : Range} → RowsAt k r → r .count ≤ ROWS
+room {k} {r} h = let f = few-rows k in let e = ap length (h .all) ∙ length-rows (r .from) (r .count) in omega arith

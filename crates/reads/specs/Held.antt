@@ -1,0 +1,40 @@
+-- The attributes of an element, whose places a table holds.
+use mathlib.Core.Path.{_≡_}
+use mathlib.Core.List.{List, _++_}
+use mathlib.Core.Bool.{Bool}
+use Prim.Native.Nat.{ℕ}
+use lib.ListN.{length, drop}
+use Rattle.grammar.specs.Bytes.{Bytes}
+use Rattle.grammar.specs.Attribute.{Attribute, spellAttributes, GoodEach}
+use Rattle.grammar.specs.Tree.{Pair}
+use Rattle.grammar.specs.Element.{readAttributes}
+use Rattle.tags.specs.Places.{places}
+use Rattle.value.specs.declared.text.Words.{Words}
+use Rattle.table.specs.Table.{Form}
+use Rattle.table.specs.Says.{Result, given}
+use Rattle.message.specs.Checked.{placeOf}
+
+-- the attributes that stand in s from `at` on have their places in the table
+pub record Held (s : Bytes) (table : List ℕ) (count : ℕ) : Type 0 where
+  pub at : ℕ
+  pub attributes : List Attribute
+  pub after : Bytes
+  pub rest : List ℕ
+  pub good : GoodEach attributes
+  pub stand : drop at s ≡ spellAttributes attributes ++ after
+  pub rows : table ≡ places at attributes ++ rest
+  pub counts : count ≡ length attributes
+
+-- as they read, and where the raw value of a name stands
+abbrev pub pairs : {s : Bytes} {table : List ℕ} {count : ℕ} → Held s table count → List Pair
+pairs h = readAttributes (h .attributes)
+
+abbrev pub place : {s : Bytes} {table : List ℕ} {count : ℕ} → Held s table count → Bytes → Words
+place h = placeOf (h .at) (h .attributes)
+
+pub record Found (s : Bytes) (table : List ℕ) (count : ℕ) (name : Bytes) (r : Words) : Type 0 where
+  pub says : (h : Held s table count) → r ≡ place h name
+
+-- f of what the attribute of a name is worth by the form t, and of its place
+pub record Tries {A : Type 0} (f : Words → Result → A) (t : Form) (optional : Bool) (s : Bytes) (table : List ℕ) (count : ℕ) (name : Bytes) (r : A) : Type 0 where
+  pub says : (h : Held s table count) → r ≡ f (place h name) (given t optional name (pairs h))

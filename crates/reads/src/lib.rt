@@ -1,0 +1,17 @@
+// What a message says. One loop tries the rows of a message's kind on its tag, and puts down a cell of three numbers for each; a message that is not
+// refused is handed out as the struct of its kind, made from the cells.
+mod cells;
+mod checking;
+mod features;
+mod find;
+mod first;
+mod ids;
+mod judge;
+mod tried;
+mod trying;
+mod whole;
+
+pub use checking::check;
+pub use ids::id_in;
+pub use whole::Outcome;
+pub use whole::check_cells;

@@ -1,0 +1,39 @@
+// A row tried on the attributes and the children of an element.
+ghost use mathlib.Core.Path.{_≡_};
+ghost use Rattle.rows.specs.Coding.{names as letters, Sound};
+ghost use Rattle.reads.specs.Held.{Held};
+ghost use Rattle.reads.specs.Kept.{Rowed};
+use crate::features::try_child;
+use crate::find::find;
+use crate::judge::judged;
+use crate::tried::Tried;
+use crate::tried::missing;
+use rows::data::Row;
+use rows::data::name_at;
+use value::Words;
+
+/// A row tried: its attribute, or its child.
+pub fn try_row(
+    s: &[u8],
+    table: &[usize],
+    count: usize,
+    inside: usize,
+    names: &[u8],
+    row: Row,
+) -> Tried
+    requires { ⌜ Held (now s) (now table) count × (now names ≡ letters) × Sound row ⌝ }
+    ensures { λ r. ⌜ Rowed (now (s .entry)) (now (table .entry)) count inside row r ⌝ }
+{
+    let name = name_at(names, row.line as usize, row.len as usize);
+    let form = row.form;
+    if form == 0 {
+        return try_child(s, inside, names, name, row.need);
+    }
+    let w = find(s, table, count, name);
+    let Words::Present(p) = w else {
+        return missing(row.need);
+    };
+    let start = p.start;
+    let len = p.len;
+    judged(&s[start..start + len], start, row)
+}

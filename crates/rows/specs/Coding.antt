@@ -1,0 +1,158 @@
+-- The attribute table as the code has it: names on lines of 24 bytes, and a number for each row.
+use mathlib.Core.Path.{_≡_}
+use mathlib.Core.List.{List, [], _∷_, _++_}
+use mathlib.Core.Bool.{Bool, true, false, _&&_, not, cond}
+use Prim.Native.Nat.{ℕ, zero, suc, _+_, _-_, _*_, _/_, _%_, _≤_}
+use Prim.Native.Char.{code}
+use lib.ListN.{take, drop, getD, length, replicate}
+use lib.Dec.{eqb, leb}
+use Rattle.grammar.specs.Bytes.{Bytes, text, same}
+use Rattle.table.specs.Table.{Row, Entry, Form, words, someWords, whole, guid, version, positive, features, table, rowsOf}
+use Rattle.rows.specs.declared.data.Row.{Row as Coded}
+use Rattle.rows.specs.declared.data.Range.{Range}
+
+-- how many rows, kinds and names there are; the rows that a kind can have; the bytes of a line
+abbrev pub ROWS : ℕ
+ROWS = 31
+
+abbrev pub KINDS : ℕ
+KINDS = 10
+
+abbrev pub LINES : ℕ
+LINES = 28
+
+abbrev pub MOST : ℕ
+MOST = 24
+
+abbrev pub WIDTH : ℕ
+WIDTH = 24
+
+-- a name on each line
+abbrev pub lines : List Bytes
+lines =
+    text "MachineId"
+    ∷ text "LaneId"
+    ∷ text "Version"
+    ∷ text "SupportedFeatures"
+    ∷ text "NotificationCode"
+    ∷ text "Severity"
+    ∷ text "Description"
+    ∷ text "BoardId"
+    ∷ text "BoardIdCreatedBy"
+    ∷ text "FailedBoard"
+    ∷ text "ProductTypeId"
+    ∷ text "FlippedBoard"
+    ∷ text "TopBarcode"
+    ∷ text "BottomBarcode"
+    ∷ text "Length"
+    ∷ text "Width"
+    ∷ text "Thickness"
+    ∷ text "ConveyorSpeed"
+    ∷ text "TopClearanceHeight"
+    ∷ text "BottomClearanceHeight"
+    ∷ text "Weight"
+    ∷ text "WorkOrderId"
+    ∷ text "TransferState"
+    ∷ text "Type"
+    ∷ text "Id"
+    ∷ text "FeatureBoardForecast"
+    ∷ text "FeatureQueryBoardInfo"
+    ∷ text "FeatureSendBoardInfo"
+    ∷ []
+
+-- blanks behind the name
+abbrev pub padded : Bytes → Bytes
+padded n = n ++ replicate (WIDTH - length n) (code " ")
+
+abbrev pub onLines : List Bytes → Bytes
+onLines [] = []
+onLines (n ∷ l) = padded n ++ onLines l
+
+unfoldable pub names : Bytes
+names = onLines lines
+
+abbrev pub kindLines : List Entry → List Bytes
+kindLines [] = []
+kindLines (e ∷ l) = e .name ∷ kindLines l
+
+unfoldable pub kindNames : Bytes
+kindNames = onLines (kindLines table)
+
+-- the line of a name
+abbrev pub lineIn : List Bytes → Bytes → ℕ
+lineIn [] n = 0
+lineIn (x ∷ l) n = cond (same x n) 0 (suc (lineIn l n))
+
+-- form, and two limits
+abbrev pub codeOf : Form → ℕ × (ℕ × ℕ)
+codeOf features = (0, (0, 0))
+codeOf (words n) = (1, (0, n))
+codeOf (someWords n) = (2, (0, n))
+codeOf (whole lo hi) = (3, (lo, hi))
+codeOf guid = (4, (0, 0))
+codeOf version = (5, (0, 0))
+codeOf positive = (6, (0, 0))
+
+abbrev pub numberOf : Row → ℕ
+numberOf r = ((((codeOf (r .form) .0 * 256 + cond (r .optional) 1 0) * 65536 + codeOf (r .form) .1 .0) * 65536 + codeOf (r .form) .1 .1) * 256 + lineIn lines (r .name)) * 256 + length (r .name)
+
+abbrev pub numbersOf : List Row → List ℕ
+numbersOf [] = []
+numbersOf (r ∷ l) = numberOf r ∷ numbersOf l
+
+-- of all kinds in order
+abbrev pub allOf : List Entry → List ℕ
+allOf [] = []
+allOf (e ∷ l) = numbersOf (e .rows) ++ allOf l
+
+unfoldable pub numbers : List ℕ
+numbers = allOf table
+
+-- where the rows of a kind start, and the length of its name
+abbrev pub kindsOf : ℕ → List Entry → List ℕ
+kindsOf at [] = (at * 256) ∷ []
+kindsOf at (e ∷ l) = (at * 256 + length (e .name)) ∷ kindsOf (at + length (e .rows)) l
+
+unfoldable pub kinds : List ℕ
+kinds = 0 ∷ kindsOf 0 table
+
+unfoldable pub startOf : ℕ → ℕ
+startOf k = getD kinds k 0 / 256
+
+-- what a value must be, by number
+abbrev pub attributeForm : ℕ → ℕ → ℕ → Form
+attributeForm k lo hi = cond (eqb k 1) (words hi) (cond (eqb k 2) (someWords hi) (cond (eqb k 3) (whole lo hi) (cond (eqb k 4) guid (cond (eqb k 5) version positive))))
+
+abbrev pub formIn : ℕ → ℕ → ℕ → Form
+formIn k lo hi = cond (eqb k 0) features (attributeForm k lo hi)
+
+abbrev pub nameAt : ℕ → ℕ → Bytes
+nameAt line len = take (line * WIDTH + len - line * WIDTH) (drop (line * WIDTH) names)
+
+-- a row of the code as a row of the table
+abbrev pub rowOf : Coded → Row
+rowOf c = record { name = nameAt (c .line) (c .len); form = formIn (c .form) (c .low) (c .high); optional = eqb (c .need) 1 }
+
+abbrev pub coded : ℕ → Coded
+coded x = record { form = x / 0x0100_0000_0000_0000; need = x / 0x0001_0000_0000_0000 % 256; low = x / 0x0001_0000_0000 % 65536; high = x / 0x0001_0000 % 65536; line = x / 0x100 % 256; len = x % 256 }
+
+unfoldable pub codedAt : ℕ → Coded
+codedAt j = coded (getD numbers j 0)
+
+-- n rows from the j-th on
+unfoldable pub rowsFrom : ℕ → ℕ → List Row
+rowsFrom j zero = []
+rowsFrom j (suc n) = rowOf (codedAt j) ∷ rowsFrom (suc j) n
+
+-- a row is as its form asks
+pub record Sound (c : Coded) : Type 0 where
+  pub low : c .low ≤ 65535
+  pub high : c .high ≤ 65535
+  pub line : suc (c .line) ≤ LINES
+  pub len : c .len ≤ WIDTH
+  pub child : c .form ≡ 0 → same (nameAt (c .line) (c .len)) (text "SupportedFeatures") && not (eqb (c .need) 1) ≡ true
+
+pub record RowsAt (k : ℕ) (r : Range) : Type 0 where
+  pub all : rowsOf k ≡ rowsFrom (r .from) (r .count)
+  pub within : r .from + r .count ≤ ROWS
+  pub few : r .count ≤ MOST

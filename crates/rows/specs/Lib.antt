@@ -1,0 +1,2 @@
+-- The coding of the table, for contracts.
+pub mod Coding

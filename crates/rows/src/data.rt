@@ -1,0 +1,209 @@
+// The attribute table for code: the names, a line each, and a number for each row and each kind.
+ghost use mathlib.Core.Path.{_≡_};
+ghost use Prim.Native.Nat.{_+_, _≤_, _<_};
+ghost use Rattle.rows.specs.Coding.{numbers as coding, names as letters, codedAt, ROWS as MANY, LINES as LAST, RowsAt, nameAt};
+
+/// The first and the last kind.
+pub const FIRST: u8 = 1;
+
+pub const LAST: u8 = 10;
+
+/// The bytes of a line.
+pub const WIDTH: usize = 24;
+
+/// The names of attributes and elements. The line of a name is its number.
+pub const NAMES: [u8; 672] = *b"\
+    MachineId               \
+    LaneId                  \
+    Version                 \
+    SupportedFeatures       \
+    NotificationCode        \
+    Severity                \
+    Description             \
+    BoardId                 \
+    BoardIdCreatedBy        \
+    FailedBoard             \
+    ProductTypeId           \
+    FlippedBoard            \
+    TopBarcode              \
+    BottomBarcode           \
+    Length                  \
+    Width                   \
+    Thickness               \
+    ConveyorSpeed           \
+    TopClearanceHeight      \
+    BottomClearanceHeight   \
+    Weight                  \
+    WorkOrderId             \
+    TransferState           \
+    Type                    \
+    Id                      \
+    FeatureBoardForecast    \
+    FeatureQueryBoardInfo   \
+    FeatureSendBoardInfo    ";
+
+/// The names of the messages, kind 1 first.
+pub const KIND_NAMES: [u8; 240] = *b"\
+    ServiceDescription      \
+    Notification            \
+    BoardAvailable          \
+    RevokeBoardAvailable    \
+    MachineReady            \
+    RevokeMachineReady      \
+    StartTransport          \
+    StopTransport           \
+    TransportFinished       \
+    CheckAlive              ";
+
+/// The rows of all kinds, in table order. In hex: the form (0 child, 1 text, 2 non-empty text, 3 int, 4 GUID, 5 Version, 6 positive number); 01 if the
+/// attribute may be missing; the least int; the largest, or the longest text; the line and the length of the name.
+pub const NUMBERS: [u64; 31] = [
+    // MachineId
+    0x1_00_0000_0050_00_09,
+    // LaneId
+    0x3_00_0001_FFFF_01_06,
+    // Version
+    0x5_00_0000_0000_02_07,
+    // SupportedFeatures
+    0x0_00_0000_0000_03_11,
+    // NotificationCode
+    0x3_00_0001_FFFF_04_10,
+    // Severity
+    0x3_00_0001_0004_05_08,
+    // Description
+    0x1_00_0000_00FE_06_0B,
+    // BoardId
+    0x4_00_0000_0000_07_07,
+    // BoardIdCreatedBy
+    0x2_00_0000_0050_08_10,
+    // FailedBoard
+    0x3_00_0000_0002_09_0B,
+    // ProductTypeId
+    0x1_01_0000_00FE_0A_0D,
+    // FlippedBoard
+    0x3_00_0000_0002_0B_0C,
+    // TopBarcode
+    0x1_01_0000_00FE_0C_0A,
+    // BottomBarcode
+    0x1_01_0000_00FE_0D_0D,
+    // Length
+    0x6_01_0000_0000_0E_06,
+    // Width
+    0x6_01_0000_0000_0F_05,
+    // Thickness
+    0x6_01_0000_0000_10_09,
+    // ConveyorSpeed
+    0x6_01_0000_0000_11_0D,
+    // TopClearanceHeight
+    0x6_01_0000_0000_12_12,
+    // BottomClearanceHeight
+    0x6_01_0000_0000_13_15,
+    // Weight
+    0x6_01_0000_0000_14_06,
+    // WorkOrderId
+    0x1_01_0000_0050_15_0B,
+    // FailedBoard
+    0x3_00_0000_0002_09_0B,
+    // BoardId
+    0x4_00_0000_0000_07_07,
+    // ConveyorSpeed
+    0x6_01_0000_0000_11_0D,
+    // TransferState
+    0x3_00_0001_0003_16_0D,
+    // BoardId
+    0x4_00_0000_0000_07_07,
+    // TransferState
+    0x3_00_0001_0003_16_0D,
+    // BoardId
+    0x4_00_0000_0000_07_07,
+    // Type
+    0x3_01_0001_0002_17_04,
+    // Id
+    0x1_01_0000_0050_18_02,
+];
+
+/// Where the rows of each kind start, and the length of its name; last, where the rows end.
+pub const KINDS: [u64; 12] = [
+    // none
+    0x00_00,
+    // ServiceDescription
+    0x00_12,
+    // Notification
+    0x04_0C,
+    // BoardAvailable
+    0x07_0E,
+    // RevokeBoardAvailable
+    0x16_14,
+    // MachineReady
+    0x16_0C,
+    // RevokeMachineReady
+    0x17_12,
+    // StartTransport
+    0x17_0E,
+    // StopTransport
+    0x19_0D,
+    // TransportFinished
+    0x1B_11,
+    // CheckAlive
+    0x1D_0A,
+    // the end
+    0x1F_00,
+];
+
+/// A row of the table: its form, whether it may be missing, its limits, and the line and the length of its name.
+pub struct Row {
+    pub form: u64,
+    pub need: u64,
+    pub low: u64,
+    pub high: u64,
+    pub line: u64,
+    pub len: u64,
+}
+
+/// The rows of a kind: the first, and how many.
+pub struct Range {
+    pub from: usize,
+    pub count: usize,
+}
+
+/// The row of that number.
+pub fn row_at(numbers: &[u64], j: usize) -> Row
+    requires { ⌜ (now numbers ≡ coding) × (j < MANY) ⌝ }
+    ensures { λ r. ⌜ r ≡ codedAt j ⌝ }
+{
+    let x = numbers[j];
+    Row {
+        form: x / 0x0100_0000_0000_0000,
+        need: x / 0x0001_0000_0000_0000 % 256,
+        low: x / 0x0001_0000_0000 % 65536,
+        high: x / 0x0001_0000 % 65536,
+        line: x / 0x100 % 256,
+        len: x % 256,
+    }
+}
+
+/// Where the rows of that kind stand.
+pub fn rows_of(kind: u8) -> Range
+    ensures { λ r. ⌜ RowsAt kind r ⌝ }
+{
+    if LAST < kind {
+        return Range { from: 0, count: 0 };
+    }
+    let k = kind as usize;
+    let kinds = KINDS;
+    let from = kinds[k] / 256;
+    let to = kinds[k + 1] / 256;
+    Range {
+        from: from as usize,
+        count: (to - from) as usize,
+    }
+}
+
+/// The name that stands on that line.
+pub fn name_at(names: &[u8], line: usize, len: usize) -> &[u8]
+    requires { ⌜ (now names ≡ letters) × (line < LAST) × (len ≤ 24) ⌝ }
+    ensures { λ r. ⌜ now r ≡ nameAt line len ⌝ }
+{
+    let from = line * WIDTH;
+    &names[from..from + len]
+}

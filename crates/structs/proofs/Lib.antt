@@ -1,0 +1,5 @@
+pub mod CellLaws
+pub mod MadeLaws
+pub mod LayLaws
+pub mod NumberLaws
+pub mod Theorems

@@ -1,0 +1,102 @@
+-- The attribute table of document 01: "Message | Attributes in order (opt = may be missing)".
+use mathlib.Core.List.{List, [], _∷_}
+use mathlib.Core.Bool.{Bool, true, false, _||_, cond}
+use Prim.Native.Nat.{ℕ}
+use Prim.Native.String.{String}
+use lib.Dec.{eqb}
+use Rattle.lane.specs.Names.{Unknown, ServiceDescription, Notification, BoardAvailable, RevokeBoardAvailable, MachineReady, RevokeMachineReady, StartTransport, StopTransport, TransportFinished, CheckAlive}
+use Rattle.grammar.specs.Bytes.{Bytes, text, same}
+
+-- what a value must be
+pub data Form : Type 0 where
+  -- "text 80"
+  words : ℕ → Form
+  -- "non-empty text 80"
+  someWords : ℕ → Form
+  -- "1..65535"
+  whole : ℕ → ℕ → Form
+  -- "GUID", "Version", "positive"
+  guid version positive : Form
+  -- "child SupportedFeatures"
+  features : Form
+
+pub record Row : Type 0 where
+  pub name : Bytes
+  pub form : Form
+  pub optional : Bool
+
+infix 70 _is_
+abbrev _is_ : String → Form → Row
+n is t = record { name = text n; form = t; optional = false }
+
+-- "opt"
+infix 70 _opt_
+abbrev _opt_ : String → Form → Row
+n opt t = record { name = text n; form = t; optional = true }
+
+pub record Entry : Type 0 where
+  pub kind : ℕ
+  pub name : Bytes
+  pub rows : List Row
+
+abbrev entry : ℕ → String → List Row → Entry
+entry k n l = record { kind = k; name = text n; rows = l }
+
+-- "8 StopTransport, 9 TransportFinished | TransferState 1..3; BoardId GUID"
+abbrev transferred : List Row
+transferred = "TransferState" is whole 1 3 ∷ "BoardId" is guid ∷ []
+
+unfoldable pub table : List Entry
+table =
+    entry ServiceDescription "ServiceDescription"
+    ("MachineId" is words 80 ∷ "LaneId" is whole 1 65535 ∷ "Version" is version ∷ "SupportedFeatures" is features ∷ [])
+    ∷ entry Notification "Notification" ("NotificationCode" is whole 1 65535 ∷ "Severity" is whole 1 4 ∷ "Description" is words 254 ∷ [])
+    ∷ entry BoardAvailable "BoardAvailable"
+    ("BoardId" is guid
+    ∷ "BoardIdCreatedBy" is someWords 80
+    ∷ "FailedBoard" is whole 0 2
+    ∷ "ProductTypeId" opt words 254
+    ∷ "FlippedBoard" is whole 0 2
+    ∷ "TopBarcode" opt words 254
+    ∷ "BottomBarcode" opt words 254
+    ∷ "Length" opt positive
+    ∷ "Width" opt positive
+    ∷ "Thickness" opt positive
+    ∷ "ConveyorSpeed" opt positive
+    ∷ "TopClearanceHeight" opt positive
+    ∷ "BottomClearanceHeight" opt positive
+    ∷ "Weight" opt positive
+    ∷ "WorkOrderId" opt words 80
+    ∷ [])
+    ∷ entry RevokeBoardAvailable "RevokeBoardAvailable" []
+    ∷ entry MachineReady "MachineReady" ("FailedBoard" is whole 0 2 ∷ [])
+    ∷ entry RevokeMachineReady "RevokeMachineReady" []
+    ∷ entry StartTransport "StartTransport" ("BoardId" is guid ∷ "ConveyorSpeed" opt positive ∷ [])
+    ∷ entry StopTransport "StopTransport" transferred
+    ∷ entry TransportFinished "TransportFinished" transferred
+    ∷ entry CheckAlive "CheckAlive" ("Type" opt whole 1 2 ∷ "Id" opt words 80 ∷ [])
+    ∷ []
+
+-- "The root's child names the message; a name not in the attribute table is kind 0."
+abbrev pub kindIn : List Entry → Bytes → ℕ
+kindIn [] n = Unknown
+kindIn (e ∷ l) n = cond (same (e .name) n) (e .kind) (kindIn l n)
+
+unfoldable pub kindOf : Bytes → ℕ
+kindOf n = kindIn table n
+
+-- the numbers that are kinds: an entry has them
+abbrev pub isKindIn : List Entry → ℕ → Bool
+isKindIn [] k = false
+isKindIn (e ∷ l) k = eqb (e .kind) k || isKindIn l k
+
+unfoldable pub isKind : ℕ → Bool
+isKind k = isKindIn table k
+
+-- the rows of a kind; kind 0 and numbers that are no kind have none
+abbrev pub rowsIn : List Entry → ℕ → List Row
+rowsIn [] k = []
+rowsIn (e ∷ l) k = cond (eqb (e .kind) k) (e .rows) (rowsIn l k)
+
+unfoldable pub rowsOf : ℕ → List Row
+rowsOf k = rowsIn table k

@@ -1,4 +1,0 @@
-pub mod Meant
-pub mod Written
-pub mod Notices
-pub mod Rows

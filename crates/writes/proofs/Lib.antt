@@ -1,0 +1,9 @@
+pub mod TextLaws
+pub mod StepLaws
+pub mod WorthLaws
+pub mod PutLaws
+pub mod ChildLaws
+pub mod MessageLaws
+pub mod LaidLaws
+pub mod KindLaws
+pub mod Theorems

@@ -1,0 +1,35 @@
+// Messages as structs: laid into cells, and refused or written as these.
+ghost use mathlib.Core.Path.{_≡_};
+ghost use Rattle.meant.specs.Meant.{refusalOf};
+ghost use Rattle.writes.specs.Writes.{Writes};
+use crate::messages::Written;
+use crate::messages::write_cells;
+use crate::refusing::refusal_of_rows;
+use message::kinds::Message;
+use rows::data::NUMBERS;
+use structs::id_of;
+use structs::lay;
+
+/// 4, 5 or 6 by the first row that refuses, or 0. Kinds without rows are not refused here.
+pub fn refusal_of(m: Message, texts: &[u8]) -> u8
+    ensures { λ r. ⌜ r ≡ refusalOf m (now (texts .entry)) ⌝ }
+{
+    let numbers = NUMBERS;
+    let mut cells = [0u64; 72];
+    lay(m, &mut cells);
+    let id = id_of(m);
+    let kind = m.kind;
+    refusal_of_rows(&numbers, kind, &cells, &id, texts)
+}
+
+/// Writes a message, whose texts are parts of `texts`, first into the buffer. 4, 5, 6 as the first row in table order refuses it; 8 for a kind
+/// that the table does not have; 7 if it does not fit. A refused message writes nothing.
+pub fn write(m: Message, texts: &[u8], out: &mut [u8]) -> Written
+    ensures { λ r. ⌜ Writes m (now (texts .entry)) (now (out .entry)) (now (out .exit)) r ⌝ }
+{
+    let mut cells = [0u64; 72];
+    lay(m, &mut cells);
+    let id = id_of(m);
+    let kind = m.kind;
+    write_cells(kind, &cells, &id, texts, out)
+}
