@@ -2,8 +2,8 @@
 use crate::line::byte;
 use crate::show::put;
 use crate::show::told;
-use number::IntScan;
 use number::NumberRead;
+use number::Scan;
 use number::WholeRead;
 
 fn whole(r: WholeRead) {
@@ -35,7 +35,7 @@ fn yes(is: bool) {
     }
 }
 
-fn scan(start: IntScan, v: &[u8], from: usize, to: usize) -> IntScan {
+fn scan(start: Scan, v: &[u8], from: usize, to: usize) -> Scan {
     let mut s = start;
     let mut i = from;
     while i < to {
@@ -47,10 +47,10 @@ fn scan(start: IntScan, v: &[u8], from: usize, to: usize) -> IntScan {
 
 // An Int whose bytes stand in two places.
 fn in_two(v: &[u8], cut: usize) {
-    let start = IntScan::start();
+    let start = Scan::start();
     let half = scan(start, v, 0, cut);
     let all = scan(half, v, cut, v.len());
-    whole(all.end());
+    whole(number::int_end(all));
 }
 
 /// `int`, `number`, `guid`, `version`, and `two CUT`: an Int whose first bytes stand apart.

@@ -1,78 +1,85 @@
--- The id of each kind, and what asks for a reply.
-use mathlib.Core.Path.{_≡_, refl, ap, _∙_}
-use mathlib.Core.List.{[], _∷_}
-use mathlib.Core.Bool.{Bool, true, false, _||_, cond}
+-- The id of a message of cells, what asks for a reply, and what the lane becomes.
+use mathlib.Core.Path.{_≡_, refl, sym, ap, subst, _∙_}
+use mathlib.Core.List.{List}
+use mathlib.Core.Bool.{Bool, true, false, _&&_}
 use Prim.Native.Nat.{ℕ, _≤_, _<_}
 use native.Mathlib.Omega.{arith}
 use lib.Dec.{eqb}
-use borrow.Author.Tests.{ne-eqb, eq-eqb, eqb-true, eqb-false}
+use borrow.Author.Tests.{ne-eqb, eq-eqb, eqb-true, le-leb, lt-leb}
+use Rattle.exact.specs.Chain.{clash}
+use Rattle.lane.specs.Names.{CheckAlive}
 use Rattle.lane.specs.Record.{noId, ended, kept, received}
 use Rattle.lane.specs.declared.Event.{Event}
 use Rattle.lane.specs.declared.Lane.{Lane}
 use Rattle.lane.specs.declared.Moved.{Moved}
-use Rattle.writing.proofs.EscapeLaws.{Unnamed}
-use Rattle.message.specs.declared.values.Whole.the-variants.{Absent as NoWhole, Present as IsWhole}
-use Rattle.message.specs.declared.kinds.Message.{Message}
-use Rattle.handover.specs.Ids.{boardId, eventOf}
-use Rattle.handover.specs.Receiving.{asksReply, movedBy}
+use Rattle.grammar.specs.Bytes.{Bytes}
+use Rattle.table.specs.Table.{table, rowsOf, guidCellIn}
+use Rattle.message.specs.Fields.{messageFrom}
+use Rattle.message.specs.Cells.{NUMBERS, cellAt, wordsBy, wholeBy, fieldBy, fieldsFrom, messageBy, idCell, idBy}
+use Rattle.handover.specs.Receiving.{asksReply, asksBy, movedFor}
 
-between : (k : ℕ) → (k ≡ 7 → ⊥) → (k ≡ 8 → ⊥) → (k ≡ 9 → ⊥) → 7 ≤ k → k < 10 → ⊥
-between k a b c lo hi = go (eqb k 7) refl (eqb k 8) refl
-  where
-    go : (x : Bool) → eqb k 7 ≡ x → (y : Bool) → eqb k 8 ≡ y → ⊥
-    go true e y f = a (eqb-true k 7 e)
-    go false e true f = b (eqb-true k 8 f)
-    go false e false f = c (omega (arith, eqb-false k 7 e, eqb-false k 8 f))
+-- the id of a kind
+module _ (k : ℕ) (cells : List ℕ) (id : Bytes) {at : ℕ} (e : at ≡ guidCellIn NUMBERS (rowsOf k) 0) where
+  so : {r : Bytes} → r ≡ idBy at cells id → r ≡ idBy (idCell k) cells id
+  unfolding idCell
+  so h = h ∙ ap (λ (n : ℕ). idBy n cells id) e
 
-module _ (m : Message) where
-  pub id-board : m .kind ≡ 3 → m .board .id .bytes ≡ boardId m
-  unfolding boardId
-  id-board e = rw (eq-eqb (m .kind) 3 e)
+  pub named-none : NUMBERS ≤ at → noId ≡ idBy (idCell k) cells id
+  named-none h = so (rw (le-leb NUMBERS at h) refl)
 
-  pub id-start : m .kind ≡ 7 → m .transport .id .bytes ≡ boardId m
-  unfolding boardId
-  id-start e = rw (ne-eqb (m .kind) 3 (λ z. omega arith), eq-eqb (m .kind) 7 e)
+  pub named-absent : at < NUMBERS → {t : ℕ} → t ≡ cellAt cells at → t ≡ 0 → noId ≡ idBy (idCell k) cells id
+  named-absent h f z = so (rw (lt-leb NUMBERS at h, eq-eqb (cellAt cells at) 0 (sym f ∙ z)) refl)
 
-  pub id-transfer : Unnamed (7 ∷ 3 ∷ []) (m .kind) → 7 ≤ m .kind → m .kind < 10 → m .transfer .id .bytes ≡ boardId m
-  unfolding boardId
-  id-transfer u lo hi = rw (ne-eqb (m .kind) 3 (u .0 .1), ne-eqb (m .kind) 7 (u .1)) (go (eqb (m .kind) 8) refl (eqb (m .kind) 9) refl)
+  pub named-there : at < NUMBERS → {t : ℕ} → t ≡ cellAt cells at → (t ≡ 0 → ⊥) → id ≡ idBy (idCell k) cells id
+  named-there h f n = so (rw (lt-leb NUMBERS at h, ne-eqb (cellAt cells at) 0 (λ z. n (f ∙ z))) refl)
+
+-- a CheckAlive of Type 1
+module _ (k t n : ℕ) where
+  pub asks-none : k ≡ 10 → t ≡ 0 → false ≡ asksBy k t n
+  unfolding wholeBy
+  asks-none e f = rw (eq-eqb k 10 e, eq-eqb t 0 f) refl
+
+  pub asks-some : k ≡ 10 → (t ≡ 0 → ⊥) → eqb n 1 ≡ asksBy k t n
+  unfolding wholeBy
+  asks-some e f = rw (eq-eqb k 10 e, ne-eqb t 0 f) refl
+
+  pub asks-other : (k ≡ 10 → ⊥) → false ≡ asksBy k t n
+  asks-other h = rw (ne-eqb k 10 h) refl
+
+  pub asks-alive : asksBy k t n ≡ true → k ≡ 10
+  asks-alive e = go (eqb k 10) refl
     where
-      go : (a : Bool) → eqb (m .kind) 8 ≡ a → (b : Bool) → eqb (m .kind) 9 ≡ b → m .transfer .id .bytes ≡ cond (eqb (m .kind) 8 || eqb (m .kind) 9) (m .transfer .id .bytes) noId
-      go true ea b eb = rw ea
-      go false ea true eb = rw (ea, eb)
-      go false ea false eb = absurd (let w = u .1 in let x = eqb-false (m .kind) 8 ea in let y = eqb-false (m .kind) 9 eb in between (m .kind) w x y lo hi)
+      go : (b : Bool) → eqb k 10 ≡ b → k ≡ 10
+      go true f = eqb-true k 10 f
+      go false f = clash (sym (asks-other (λ z. clash (sym (eq-eqb k 10 z) ∙ f)) ∙ e))
 
-  none-at : (m .kind ≡ 3 → ⊥) → (m .kind ≡ 7 → ⊥) → (m .kind ≡ 8 → ⊥) → (m .kind ≡ 9 → ⊥) → noId ≡ boardId m
-  unfolding boardId
-  none-at a b c d = rw (ne-eqb (m .kind) 3 a, ne-eqb (m .kind) 7 b, ne-eqb (m .kind) 8 c, ne-eqb (m .kind) 9 d)
+module _ (cells : List ℕ) (id : Bytes) where
+  alive-asks : asksBy 10 (cellAt cells 0) (cellAt cells 1) ≡ asksReply (messageBy 10 cells id)
+  unfolding asksReply messageFrom fieldsFrom fieldBy table
+  alive-asks = refl
 
-  pub id-none-below : Unnamed (7 ∷ 3 ∷ []) (m .kind) → m .kind < 7 → noId ≡ boardId m
-  id-none-below u h = none-at (u .0 .1) (u .1) (λ z. omega arith) (λ z. omega arith)
+  none-asks : (k : ℕ) → eqb k 10 ≡ false → asksReply (messageBy k cells id) ≡ false
+  unfolding asksReply messageFrom
+  none-asks k f = rw f refl
 
-  pub id-none-above : Unnamed (7 ∷ 3 ∷ []) (m .kind) → 9 < m .kind → noId ≡ boardId m
-  id-none-above u h = none-at (u .0 .1) (u .1) (λ z. omega arith) (λ z. omega arith)
+  pub asks-cells : (k : ℕ) → asksBy k (cellAt cells 0) (cellAt cells 1) ≡ asksReply (messageBy k cells id)
+  asks-cells k = go (eqb k 10) refl
+    where
+      go : (b : Bool) → eqb k 10 ≡ b → asksBy k (cellAt cells 0) (cellAt cells 1) ≡ asksReply (messageBy k cells id)
+      go true f = subst (λ (k : ℕ). asksBy k (cellAt cells 0) (cellAt cells 1) ≡ asksReply (messageBy k cells id)) (sym (eqb-true k 10 f)) alive-asks
+      go false f = rw f (sym (none-asks k f))
 
-  pub asks-none : m .kind ≡ 10 → m .alive .ping ≡ NoWhole → false ≡ asksReply m
-  unfolding asksReply
-  asks-none e f = rw (eq-eqb (m .kind) 10 e, f)
+  pub alive-cells : (k : ℕ) → k ≡ 10 → wordsBy (cellAt cells 3) (cellAt cells 4) (cellAt cells 5) ≡ messageBy k cells id .alive .id
+  unfolding messageFrom fieldsFrom fieldBy table
+  alive-cells k e = ap (λ (k : ℕ). messageBy k cells id .alive .id) (sym e)
 
-  pub asks-some : m .kind ≡ 10 → {n : ℕ} → m .alive .ping ≡ IsWhole n → eqb n 1 ≡ asksReply m
-  unfolding asksReply
-  asks-some e f = rw (eq-eqb (m .kind) 10 e, f)
+-- what the lane becomes
+module _ (l : Lane) (n : ℕ) (e : Event) where
+  pub moved-on : n ≡ 0 → {r : Moved} → r ≡ received l e → r ≡ movedFor l n e
+  moved-on z f = f ∙ rw (eq-eqb n 0 z) refl
 
-  pub asks-other : (m .kind ≡ 10 → ⊥) → false ≡ asksReply m
-  unfolding asksReply
-  asks-other h = rw (ne-eqb (m .kind) 10 h)
+  pub moved-kept : n ≡ 1 → kept l 1 ≡ movedFor l n e
+  moved-kept z = rw (ne-eqb n 0 (λ y. omega arith), eq-eqb n 1 z) refl
 
-  module _ (l : Lane) (n : ℕ) where
-    pub moved-on : n ≡ 0 → {e : Event} {r : Moved} → e ≡ eventOf m → r ≡ received l e → r ≡ movedBy l n m
-    unfolding movedBy
-    moved-on z e f = f ∙ ap (received l) e ∙ rw (eq-eqb n 0 z)
-
-    pub moved-kept : n ≡ 1 → kept l 1 ≡ movedBy l n m
-    unfolding movedBy
-    moved-kept z = rw (ne-eqb n 0 (λ y. omega arith), eq-eqb n 1 z)
-
-    pub moved-ended : (n ≡ 0 → ⊥) → (n ≡ 1 → ⊥) → {r : Moved} → r ≡ ended l n → r ≡ movedBy l n m
-    unfolding movedBy
-    moved-ended y z f = f ∙ rw (ne-eqb n 0 y, ne-eqb n 1 z)
+  pub moved-ended : (n ≡ 0 → ⊥) → (n ≡ 1 → ⊥) → {r : Moved} → r ≡ ended l n → r ≡ movedFor l n e
+  moved-ended y z f = f ∙ rw (ne-eqb n 0 y, ne-eqb n 1 z) refl

@@ -14,13 +14,13 @@ use Rattle.number.specs.Version.{versionOf}
 use Rattle.lane.specs.Chart.{among}
 use Rattle.value.specs.declared.text.Span.{Span}
 use Rattle.value.specs.declared.text.Words.the-variants.{Absent as NoWords, Present as IsWords}
-use Rattle.table.specs.Table.{Row, Form, words, someWords, whole, guid, version, positive, features}
-use Rattle.table.specs.Says.{Value, Result, present, absent, refused, aText, anInt, anId, millionths, noted, notes, when, limited, without, ranged, measured, judged, given, nameOf, childrenOf, featured, tried, refusalIn, first, refusalOf}
+use Rattle.table.specs.Table.{Row, Form, words, someWords, whole, guid, version, positive, features, Need, required, optional, requiredWith, ignored}
+use Rattle.table.specs.Says.{Value, Result, present, absent, refused, aText, anInt, anId, millionths, noted, notes, when, limited, without, ranged, measured, judged, given, nameOf, childrenOf, featured, sought, byNeed, tried, refusalIn, first, refusalOf}
 use Rattle.message.specs.Fields.{Field, none, aWords, aWhole, aMeasure, aGuid, aFeatures}
 use Rattle.message.specs.declared.values.Whole.the-variants.{Absent as NoWhole, Present as IsWhole}
 use Rattle.message.specs.declared.values.Measure.the-variants.{Absent as NoMeasure, Present as IsMeasure}
 use Rattle.message.specs.declared.values.Features.{Features}
-use Rattle.meant.specs.Meant.{sendable, textAt, textMeant, wholeMeant, measureMeant, idMeant, featuresMeant, meantBy, meantOf, firstIn, MOST}
+use Rattle.meant.specs.Meant.{sendable, textAt, textMeant, wholeMeant, measureMeant, idMeant, featuresMeant, meantAs, meantBy, meantOf, firstIn, MOST}
 
 -- "4, 5, 6", and 0
 abbrev pub Listed : ℕ → Type 0
@@ -76,18 +76,24 @@ featured-fine : (n : Bytes) (o : Bool) (f : Forest) → Fine (featured n o f)
 featured-fine n o no-trees = without-fine o
 featured-fine n o (tree-then t f) = either-fine (same n (nameOf t)) (present-fine (notes (childrenOf t))) (featured-fine n o f)
 
+sought-fine : (x : Form) (n : Bytes) (t : Tree) (o : Bool) → Fine (sought x n t o)
+sought-fine (words k) n (tree m a f) o = given-fine (words k) o n a
+sought-fine (someWords k) n (tree m a f) o = given-fine (someWords k) o n a
+sought-fine (whole lo hi) n (tree m a f) o = given-fine (whole lo hi) o n a
+sought-fine guid n (tree m a f) o = given-fine guid o n a
+sought-fine version n (tree m a f) o = given-fine version o n a
+sought-fine positive n (tree m a f) o = given-fine positive o n a
+sought-fine features n (tree m a f) o = featured-fine n o f
+
+need-fine : (d : Need) {f : Bool → Result} → ((o : Bool) → Fine (f o)) → Fine (byNeed d f)
+need-fine required h = h false
+need-fine optional h = h true
+need-fine (requiredWith n) h = record { listed = refl }
+need-fine ignored h = record { listed = refl }
+
 tried-fine : (r : Row) (t : Tree) → Fine (tried r t)
 unfolding tried
-tried-fine r (tree n a f) = go (r .form) refl
-  where
-    go : (t : Form) → r .form ≡ t → Fine (tried r (tree n a f))
-    go (words k) e = rw e (given-fine (words k) (r .optional) (r .name) a)
-    go (someWords k) e = rw e (given-fine (someWords k) (r .optional) (r .name) a)
-    go (whole lo hi) e = rw e (given-fine (whole lo hi) (r .optional) (r .name) a)
-    go guid e = rw e (given-fine guid (r .optional) (r .name) a)
-    go version e = rw e (given-fine version (r .optional) (r .name) a)
-    go positive e = rw e (given-fine positive (r .optional) (r .name) a)
-    go features e = rw e (featured-fine (r .name) (r .optional) f)
+tried-fine r t = need-fine (r .need) (sought-fine (r .form) (r .name) t)
 
 first-listed : (a b : ℕ) → Listed a → Listed b → Listed (first a b)
 first-listed zero b p q = q
@@ -144,17 +150,20 @@ features-fine version f = bad-fine
 features-fine positive f = bad-fine
 features-fine features f = present-fine (noted (f .forecast) (f .query) (f .send))
 
+as-fine : (t : Form) (x : Field) (texts : Bytes) (o : Bool) → Fine (meantAs t x texts o)
+as-fine t none texts o = bad-fine
+as-fine t (aWords NoWords) texts o = without-fine o
+as-fine t (aWords (IsWords p)) texts o = text-fine t texts p
+as-fine t (aWhole NoWhole) texts o = without-fine o
+as-fine t (aWhole (IsWhole k)) texts o = whole-fine t k
+as-fine t (aMeasure NoMeasure) texts o = without-fine o
+as-fine t (aMeasure (IsMeasure x)) texts o = measure-fine t x
+as-fine t (aGuid g) texts o = either-fine (g .there) (id-fine t (g .bytes)) (without-fine o)
+as-fine t (aFeatures f) texts o = either-fine (f .there) (features-fine t f) (without-fine o)
+
 meant-fine : (r : Row) (x : Field) (texts : Bytes) → Fine (meantBy r x texts)
 unfolding meantBy
-meant-fine r none texts = bad-fine
-meant-fine r (aWords NoWords) texts = without-fine (r .optional)
-meant-fine r (aWords (IsWords p)) texts = text-fine (r .form) texts p
-meant-fine r (aWhole NoWhole) texts = without-fine (r .optional)
-meant-fine r (aWhole (IsWhole k)) texts = whole-fine (r .form) k
-meant-fine r (aMeasure NoMeasure) texts = without-fine (r .optional)
-meant-fine r (aMeasure (IsMeasure x)) texts = measure-fine (r .form) x
-meant-fine r (aGuid g) texts = either-fine (g .there) (id-fine (r .form) (g .bytes)) (without-fine (r .optional))
-meant-fine r (aFeatures f) texts = either-fine (f .there) (features-fine (r .form) f) (without-fine (r .optional))
+meant-fine r x texts = need-fine (r .need) (as-fine (r .form) x texts)
 
 pub meant-listed : (rows : List Row) (l : List Field) (texts : Bytes) → Listed (firstIn (meantOf rows l texts))
 unfolding meantOf

@@ -22,15 +22,19 @@ use Rattle.lane.specs.declared.chart.Step.{Step}
 use Rattle.lane.specs.declared.chart.Step.the-variants.{To, NoTransition}
 use Rattle.value.specs.declared.id.Guid.{Guid}
 use Rattle.value.specs.declared.text.Words.{Words}
-use Rattle.table.specs.Table.{guid, table, rowsOf}
+use Rattle.table.specs.Table.{guid, Row, table, rowsOf}
+use Rattle.table.specs.Theorems.{rows-table}
+use Rattle.meant.proofs.MessageLaws.{refusal-table}
 use Rattle.table.specs.Says.{Result, present, refused, anId, refusalIn, first, without, childOf, saidOf, valuesOf}
-use Rattle.message.specs.Fields.{idIn, fieldOf, fieldsIn, messageFrom, fieldsOf}
+use Rattle.message.specs.Fields.{idIn, fieldFor, fieldsIn, messageFrom, fieldsOf}
 use Rattle.message.specs.Checked.{messageOf}
 use Rattle.message.specs.declared.checking.Checked.{Checked}
 use Rattle.message.specs.declared.kinds.Message.{Message}
 use Rattle.number.specs.Guid.{guidOf}
 use Rattle.meant.specs.Meant.{idMeant, meantBy, meantOf, firstIn, refusalOf}
-use Rattle.handover.specs.Ids.{boardId, eventOf}
+use Rattle.value.specs.Ids.{noId as noBytes}
+use Rattle.message.specs.Cells.{bytesIn, idOf}
+use Rattle.handover.specs.Ids.{eventOf}
 use Rattle.handover.specs.Receiving.{Receives}
 use Rattle.handover.specs.Sending.{Sends}
 use Rattle.handover.specs.Mirror.{Mirrored}
@@ -73,16 +77,16 @@ sent-taken s k u same n q =
     no-step e = absurd (let x : _≡_ {A = ℕ} 0 1 = cc in omega arith)
 
 -- an id that was meant reads back
-id-back : (g : Guid) (x : Result) → x ≡ cond (g .there) (idMeant guid (g .bytes)) (without false) → refusalIn x ≡ 0 → idIn x .bytes ≡ g .bytes
+id-back : (g : Guid) (x : Result) → x ≡ cond (g .there) (idMeant guid (g .bytes)) (without false) → refusalIn x ≡ 0 → bytesIn (idIn x) ≡ bytesIn g
 id-back g x e z = cases (g .there) (λ t. cases (guidOf (g .bytes)) (λ h. good t h) (λ h. bad t h)) none
   where
-    good : g .there ≡ true → guidOf (g .bytes) ≡ true → idIn x .bytes ≡ g .bytes
-    good t h = let y : x ≡ present (anId (g .bytes)) = e ∙ rw (t, h) refl in ap (λ (x : Result). idIn x .bytes) y
+    good : g .there ≡ true → guidOf (g .bytes) ≡ true → bytesIn (idIn x) ≡ bytesIn g
+    good t h = let y : x ≡ present (anId (g .bytes)) = e ∙ rw (t, h) refl in ap (λ (x : Result). bytesIn (idIn x)) y ∙ sym (ap (λ (b : Bool). cond b (g .bytes) (noBytes .bytes)) t)
 
-    bad : g .there ≡ true → guidOf (g .bytes) ≡ false → idIn x .bytes ≡ g .bytes
+    bad : g .there ≡ true → guidOf (g .bytes) ≡ false → bytesIn (idIn x) ≡ bytesIn g
     bad t h = absurd (let y : x ≡ refused 6 = e ∙ rw (t, h) refl in let w : 6 ≡ 0 = sym (ap refusalIn y) ∙ z in omega arith)
 
-    none : g .there ≡ false → idIn x .bytes ≡ g .bytes
+    none : g .there ≡ false → bytesIn (idIn x) ≡ bytesIn g
     none t = absurd (let y : x ≡ refused 4 = e ∙ rw t refl in let w : 4 ≡ 0 = sym (ap refusalIn y) ∙ z in omega arith)
 
 first-zero : (a b : ℕ) → first a b ≡ 0 → (a ≡ 0) × (b ≡ 0)
@@ -108,49 +112,49 @@ second-zero (x ∷ l) e = head-zero l (first-zero (refusalIn x) (firstIn l) e .1
 -- the id of the message that was read is that of the message that was sent
 module _ (m : Message) (texts : Bytes) (place : Bytes → Words) (t : Tree) (z : refusalOf m texts ≡ 0) (v : valuesOf (rowsOf (m .kind)) t ≡ meantOf (rowsOf (m .kind)) (fieldsOf m) texts) where
   zero-of : (k : ℕ) → m .kind ≡ k → firstIn (meantOf (rowsOf k) (fieldsOf m) texts) ≡ 0
-  zero-of k e = subst (λ (k : ℕ). firstIn (meantOf (rowsOf k) (fieldsOf m) texts) ≡ 0) e z
+  zero-of k e = subst (λ (k : ℕ). firstIn (meantOf (rowsOf k) (fieldsOf m) texts) ≡ 0) e (sym (refusal-table (m .kind) (fieldsOf m) texts) ∙ z)
 
   values-of : (k : ℕ) → m .kind ≡ k → valuesOf (rowsOf k) t ≡ meantOf (rowsOf k) (fieldsOf m) texts
   values-of k e = subst (λ (k : ℕ). valuesOf (rowsOf k) t ≡ meantOf (rowsOf k) (fieldsOf m) texts) e v
 
-  board-id : m .kind ≡ 3 → boardId (messageOf 3 place t) ≡ boardId m
-  unfolding boardId messageFrom fieldsIn fieldOf rowsOf table valuesOf meantOf meantBy fieldsOf
+  board-id : m .kind ≡ 3 → idOf (messageOf 3 place t) ≡ idOf m
+  unfolding idOf messageFrom fieldsIn fieldFor table valuesOf meantOf meantBy fieldsOf
   board-id e =
       let a = ap head (values-of 3 e) in
       let n = ap refusalIn a ∙ head-zero (meantOf (rowsOf 3) (fieldsOf m) texts) (zero-of 3 e) in
       rw (eq-eqb (m .kind) 3 e) (id-back (m .board .id) _ (a ∙ rw (eq-eqb (m .kind) 3 e, ne-eqb (m .kind) 1 (λ x. omega arith), ne-eqb (m .kind) 2 (λ x. omega arith)) refl) n)
 
-  start-id : m .kind ≡ 7 → boardId (messageOf 7 place t) ≡ boardId m
-  unfolding boardId messageFrom fieldsIn fieldOf rowsOf table valuesOf meantOf meantBy fieldsOf
+  start-id : m .kind ≡ 7 → idOf (messageOf 7 place t) ≡ idOf m
+  unfolding idOf messageFrom fieldsIn fieldFor table valuesOf meantOf meantBy fieldsOf
   start-id e =
       let a = ap head (values-of 7 e) in
       let n = ap refusalIn a ∙ head-zero (meantOf (rowsOf 7) (fieldsOf m) texts) (zero-of 7 e) in
       rw e (id-back (m .transport .id) _ (a ∙ rw e refl) n)
 
-  transfer-id : (k : ℕ) → (k ≡ 8) ⊎ (k ≡ 9) → m .kind ≡ k → boardId (messageOf k place t) ≡ boardId m
-  unfolding boardId messageFrom fieldsIn fieldOf rowsOf table valuesOf meantOf meantBy fieldsOf
+  transfer-id : (k : ℕ) → (k ≡ 8) ⊎ (k ≡ 9) → m .kind ≡ k → idOf (messageOf k place t) ≡ idOf m
+  unfolding idOf messageFrom fieldsIn fieldFor table valuesOf meantOf meantBy fieldsOf
   transfer-id k w e = ⊎-elim (λ f. rw f (eight (e ∙ f))) (λ f. rw f (nine (e ∙ f))) w
     where
-      eight : m .kind ≡ 8 → boardId (messageOf 8 place t) ≡ boardId m
+      eight : m .kind ≡ 8 → idOf (messageOf 8 place t) ≡ idOf m
       eight e =
           let a = ap second (values-of 8 e) in
           let n = ap refusalIn a ∙ second-zero (meantOf (rowsOf 8) (fieldsOf m) texts) (zero-of 8 e) in
           rw e (id-back (m .transfer .id) _ (a ∙ rw e refl) n)
 
-      nine : m .kind ≡ 9 → boardId (messageOf 9 place t) ≡ boardId m
+      nine : m .kind ≡ 9 → idOf (messageOf 9 place t) ≡ idOf m
       nine e =
           let a = ap second (values-of 9 e) in
           let n = ap refusalIn a ∙ second-zero (meantOf (rowsOf 9) (fieldsOf m) texts) (zero-of 9 e) in
           rw e (id-back (m .transfer .id) _ (a ∙ rw e refl) n)
 
-  no-id : (k : ℕ) → (k ≡ 3 → ⊥) → (k ≡ 7 → ⊥) → (k ≡ 8 → ⊥) → (k ≡ 9 → ⊥) → m .kind ≡ k → boardId (messageOf k place t) ≡ boardId m
-  unfolding boardId messageFrom
+  no-id : (k : ℕ) → (k ≡ 3 → ⊥) → (k ≡ 7 → ⊥) → (k ≡ 8 → ⊥) → (k ≡ 9 → ⊥) → m .kind ≡ k → idOf (messageOf k place t) ≡ idOf m
+  unfolding idOf messageFrom
   no-id k a b c d e = rw (e, ne-eqb k 3 a, ne-eqb k 7 b, ne-eqb k 8 c, ne-eqb k 9 d) refl
 
-  pub same-id : (k : ℕ) → m .kind ≡ k → boardId (messageOf k place t) ≡ boardId m
+  pub same-id : (k : ℕ) → m .kind ≡ k → idOf (messageOf k place t) ≡ idOf m
   same-id k e =
-      cases (eqb k 3) (λ a. let f = eqb-true k 3 a in subst (λ (k : ℕ). boardId (messageOf k place t) ≡ boardId m) (sym f) (board-id (e ∙ f)))
-      (λ a. cases (eqb k 7) (λ b. let f = eqb-true k 7 b in subst (λ (k : ℕ). boardId (messageOf k place t) ≡ boardId m) (sym f) (start-id (e ∙ f)))
+      cases (eqb k 3) (λ a. let f = eqb-true k 3 a in subst (λ (k : ℕ). idOf (messageOf k place t) ≡ idOf m) (sym f) (board-id (e ∙ f)))
+      (λ a. cases (eqb k 7) (λ b. let f = eqb-true k 7 b in subst (λ (k : ℕ). idOf (messageOf k place t) ≡ idOf m) (sym f) (start-id (e ∙ f)))
       (λ b. cases (eqb k 8) (λ c. transfer-id k (inl (eqb-true k 8 c)) e)
       (λ c. cases (eqb k 9) (λ d. transfer-id k (inr (eqb-true k 9 d)) e) (λ d. no-id k (eqb-false k 3 a) (eqb-false k 7 b) (eqb-false k 8 c) (eqb-false k 9 d) e))))
 
@@ -181,13 +185,13 @@ module _ {l l′ : Lane} (w : Mirrored l l′) where
       go NoTransition q = absurd (let x : 8 ≡ 0 = sym (ap (λ (v : Moved). v .refusal) (sent-by l e NoTransition q)) ∙ z in omega arith)
 
 -- what was read names the board that was sent
-read-id : {s : Bytes} (m : Message) (texts : Bytes) {n : ℕ} {c : Checked} → ReadAs s m texts n c → refusalOf m texts ≡ 0 → boardId (c .message) ≡ boardId m
+read-id : {s : Bytes} (m : Message) (texts : Bytes) {n : ℕ} {c : Checked} → ReadAs s m texts n c → refusalOf m texts ≡ 0 → idOf (c .message) ≡ idOf m
 unfolding messageFrom
 read-id m texts a z =
     let h = a .handed in
     let k : saidOf (h .reading) .kind ≡ m .kind = sym (ap (λ (m : Message). m .kind) (h .fields)) ∙ a .kind in
-    let v : valuesOf (rowsOf (m .kind)) (childOf (h .reading)) ≡ meantOf (rowsOf (m .kind)) (fieldsOf m) texts = subst (λ (k : ℕ). valuesOf (rowsOf k) (childOf (h .reading)) ≡ meantOf (rowsOf (m .kind)) (fieldsOf m) texts) k (a .values) in
-    ap boardId (h .fields) ∙ same-id m texts (h .place) (childOf (h .reading)) z v (saidOf (h .reading) .kind) (sym k)
+    let v : valuesOf (rowsOf (m .kind)) (childOf (h .reading)) ≡ meantOf (rowsOf (m .kind)) (fieldsOf m) texts = subst (λ (k : ℕ). valuesOf (rowsOf k) (childOf (h .reading)) ≡ meantOf (rowsOf (m .kind)) (fieldsOf m) texts) k (sym (ap (λ (l : List Row). valuesOf l (childOf (h .reading))) (rows-table (saidOf (h .reading) .kind) (childOf (h .reading)))) ∙ a .values) in
+    ap idOf (h .fields) ∙ same-id m texts (h .place) (childOf (h .reading)) z v (saidOf (h .reading) .kind) (sym k)
 
 -- and is the same for the chart
 read-event : {s : Bytes} (m : Message) (texts : Bytes) {n : ℕ} {c : Checked} → ReadAs s m texts n c → refusalOf m texts ≡ 0 → eventOf (c .message) ≡ eventOf m

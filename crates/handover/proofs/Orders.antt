@@ -26,7 +26,8 @@ use Rattle.message.specs.declared.kinds.Message.{Message}
 use Rattle.reads.proofs.Theorems.{check-only}
 use Rattle.meant.specs.Notices.{notice}
 use Rattle.meant.proofs.Theorems.{notice-lengths}
-use Rattle.handover.specs.Ids.{boardId, eventOf}
+use Rattle.message.specs.Cells.{idOf}
+use Rattle.handover.specs.Ids.{eventOf}
 use Rattle.handover.specs.Receiving.{asksReply, movedBy, Owes, nothing-yet, a-notice, a-reply, no-reply, told, Receives}
 use Rattle.handover.specs.Sending.{Sends}
 use Rattle.handover.specs.declared.receiving.Received.{Received}
@@ -177,23 +178,23 @@ module _ {l : Lane} {s old new : Bytes} {r : Received} (p : Receives l s old new
   owes-notice n (a-reply y a b) = absurd (omega arith)
   owes-notice n (no-reply y a f) = absurd (omega arith)
 
-  start-told : (order : ℕ) → c .message .kind ≡ StartTransport → received l (eventOf (c .message)) ≡ started l (boardId (c .message)) order → r ≡ told c (started l (boardId (c .message)) order) 0
+  start-told : (order : ℕ) → c .message .kind ≡ StartTransport → received l (eventOf (c .message)) ≡ started l (idOf (c .message)) order → r ≡ told c (started l (idOf (c .message)) order) 0
   start-told order k e =
-      let d : p .due ≡ [] = owes-none (owed (started l (boardId (c .message)) order) e) (λ x. let y : _≡_ {A = ℕ} 7 10 = sym k ∙ x in omega arith) in
-      told-as (started l (boardId (c .message)) order) e (let y = ap length d in omega arith) ∙ ap (λ (b : Bytes). told c (started l (boardId (c .message)) order) (length b)) d
+      let d : p .due ≡ [] = owes-none (owed (started l (idOf (c .message)) order) e) (λ x. let y : _≡_ {A = ℕ} 7 10 = sym k ∙ x in omega arith) in
+      told-as (started l (idOf (c .message)) order) e (let y = ap length d in omega arith) ∙ ap (λ (b : Bytes). told c (started l (idOf (c .message)) order) (length b)) d
 
   -- T2.L6
-  pub receive-start-run : c .message .kind ≡ StartTransport → l .side ≡ U → l .state ≡ Both → l .offered ≡ boardId (c .message)
-      → r ≡ told c (started l (boardId (c .message)) Run) 0
+  pub receive-start-run : c .message .kind ≡ StartTransport → l .side ≡ U → l .state ≡ Both → l .offered ≡ idOf (c .message)
+      → r ≡ told c (started l (idOf (c .message)) Run) 0
   receive-start-run k es et ei = start-told Run k (start-run l (eventOf (c .message)) k es et ei)
 
   -- T2.L5
-  pub receive-start-cancel : c .message .kind ≡ StartTransport → l .side ≡ U → (l .state ≡ Ready) ⊎ ((l .state ≡ Both) × (l .offered ≡ boardId (c .message) → ⊥))
-      → r ≡ told c (started l (boardId (c .message)) Cancel) 0
+  pub receive-start-cancel : c .message .kind ≡ StartTransport → l .side ≡ U → (l .state ≡ Ready) ⊎ ((l .state ≡ Both) × (l .offered ≡ idOf (c .message) → ⊥))
+      → r ≡ told c (started l (idOf (c .message)) Cancel) 0
   receive-start-cancel k es w = start-told Cancel k (⊎-elim (start-cancel-ready l (eventOf (c .message)) k es) (λ q. start-cancel-other l (eventOf (c .message)) k es (q .0) (q .1)) w)
 
   -- T2.L7: the Notification of 9 has 99 bytes
-  pub receive-foreign-stop : (c .message .kind ≡ StopTransport) ⊎ (c .message .kind ≡ TransportFinished) → (l .running ≡ boardId (c .message) → ⊥) → 99 ≤ length old
+  pub receive-foreign-stop : (c .message .kind ≡ StopTransport) ⊎ (c .message .kind ≡ TransportFinished) → (l .running ≡ idOf (c .message) → ⊥) → 99 ≤ length old
       → r ≡ told c (ended l 9) 99
   receive-foreign-stop w n f =
       let e = foreign-stop l (eventOf (c .message)) w n in

@@ -1,26 +1,36 @@
 -- What is written back, and each answer of receiving.
 use mathlib.Core.Path.{_≡_, refl, sym, ap, subst, _∙_}
-use mathlib.Core.List.{[], _++_}
+use mathlib.Core.List.{List, [], _++_}
 use mathlib.Core.Bool.{Bool, true, false, cond}
 use Prim.Native.Nat.{ℕ, _≤_, _<_}
 use native.Mathlib.Omega.{arith}
-use lib.ListN.{length, drop}
+use lib.ListN.{length, drop, replicate, length-replicate}
 use lib.Dec.{eqb, leb}
 use borrow.Author.Tests.{ne-eqb, eq-eqb, le-leb}
+use Rattle.lane.specs.Record.{noId}
 use Rattle.lane.specs.declared.Lane.{Lane}
 use Rattle.lane.specs.declared.Moved.{Moved}
 use Rattle.grammar.specs.Bytes.{Bytes}
+use Rattle.value.specs.declared.text.Words.{Words}
+use Rattle.message.specs.Cells.{NUMBERS, cellAt, wordsBy, messageBy}
 use Rattle.message.specs.Checked.{Checks}
-use Rattle.message.specs.Fields.{blank}
+use Rattle.message.specs.Fields.{messageFrom, blank}
 use Rattle.message.specs.declared.checking.Checked.{Checked}
 use Rattle.message.specs.declared.kinds.Message.{Message}
 use Rattle.meant.specs.Notices.{notice}
+use Rattle.structs.proofs.KindLaws.{blank-is, blank-told}
+use Rattle.reads.specs.Whole.{handedBy, ChecksInto}
+use Rattle.reads.specs.declared.checking.Found.{Found}
 use Rattle.writes.specs.declared.messages.Written.{Written as Count}
-use Rattle.replies.specs.First.{First}
-use Rattle.replies.specs.Replies.{Replies}
-use Rattle.replies.proofs.Theorems.{reply-written}
-use Rattle.handover.specs.Receiving.{asksReply, movedBy, Owes, nothing-yet, a-notice, a-reply, no-reply, noRoom, told, answerOf, Receives, Sound, Written}
+use Rattle.written_back.specs.First.{First}
+use Rattle.written_back.specs.Replies.{Replies}
+use Rattle.written_back.proofs.Theorems.{reply-written}
+use Rattle.handover.specs.Ids.{eventOf}
+use Rattle.handover.specs.Receiving.{asksReply, movedFor, movedBy, Owes, nothing-yet, a-notice, a-reply, no-reply, noRoom, told, answerOf, Receives, Sound, Written, Answers, asksBy, noReceipt, refusedBy, toldBy, Finishes, lacks-room, refuses, tells, ReceivesInto}
+use Rattle.handover.specs.declared.receiving.Receipt.{Receipt}
 use Rattle.handover.specs.declared.receiving.Received.{Received}
+use Rattle.handover.proofs.IdLaws.{asks-alive, asks-cells, alive-cells}
+use Rattle.handover.proofs.SoundLaws.{check-sound}
 
 -- nothing is written anywhere
 first-nothing : (old : Bytes) → First [] old old (record { refusal = 0; count = 0 })
@@ -77,3 +87,74 @@ module _ (l : Lane) {s old new : Bytes} {c : Checked} {v : Moved} {w : Count} (h
       go : (b : Bool) → leb (length (x .due)) (length old) ≡ b → told c v (w .count) ≡ answerOf l c (x .due) (length old)
       go true g = rw (g, ← e) (ap (told c v) (fits true g .1))
       go false g = absurd (let y : 7 ≡ 0 = sym (fits false g .0) ∙ z in omega arith)
+
+-- so for each message with that Id
+module _ {s : Bytes} {n : ℕ} {asks : Bool} {id : Words} where
+  pub answers-nothing-yet : (old : Bytes) → n ≡ 1 → Answers s n asks id old old (record { refusal = 0; count = 0 })
+  answers-nothing-yet old e = record { says = λ m f g. wrote-nothing-yet s m n old e }
+
+  pub answers-notice : {old new : Bytes} {r : Count} → (n ≡ 1 → ⊥) → (n ≡ 0 → ⊥) → First (notice n) old new r → Answers s n asks id old new r
+  answers-notice a b x = record { says = λ m f g. wrote-notice s m n a b x }
+
+  pub answers-reply : {old new : Bytes} {r : Count} → n ≡ 0 → asks ≡ true → (asks ≡ true → Sound s id) → Replies s id old new r → Answers s n asks id old new r
+  answers-reply {old} {new} {r} e t h x = record { says = λ m f g. wrote-reply s m n e f t (subst (Sound s) (g t) (h t)) (subst (λ (w : Words). Replies s w old new r) (g t) x) }
+
+  pub answers-none : (old : Bytes) → n ≡ 0 → asks ≡ false → Answers s n asks id old old (record { refusal = 0; count = 0 })
+  answers-none old e t = record { says = λ m f g. wrote-no-reply s m n old e f t }
+
+-- the cells stay as many
+pub finish-long : {l : Lane} {f : Found} {v : Moved} {w : Count} {before after : List ℕ} {r : Receipt} → Finishes l f v w before after r → length after ≡ length before
+finish-long {before = before} (lacks-room n e h) = ap length e ∙ length-replicate {A = ℕ} (length before) 0
+finish-long {before = before} (refuses z n e h) = ap length e ∙ length-replicate {A = ℕ} (length before) 0
+finish-long (tells z y e h) = ap length e
+
+-- the three answers with cells
+module _ (l : Lane) {s : Bytes} {cells : List ℕ} {f : Found} {v : Moved} {asks : Bool} {alive : Words} (x : ChecksInto s cells f) (ev : v ≡ movedFor l (f .refusal) (record { kind = f .kind; id = f .id })) (ea : asks ≡ asksBy (f .kind) (cellAt cells 0) (cellAt cells 1)) (ei : alive ≡ wordsBy (cellAt cells 3) (cellAt cells 4) (cellAt cells 5)) where
+  abbrev message : Message
+  message = messageBy (f .kind) cells (f .id)
+
+  same-id : asks ≡ true → alive ≡ message .alive .id
+  same-id t = ei ∙ alive-cells cells (f .id) (f .kind) (asks-alive (f .kind) (cellAt cells 0) (cellAt cells 1) (sym ea ∙ t))
+
+  pub sound-id : asks ≡ true → Sound s alive
+  sound-id t = subst (Sound s) (sym (same-id t)) (check-sound (x .checks))
+
+  event : eventOf message ≡ record { kind = f .kind; id = f .id }
+  unfolding messageFrom
+  event = ap (λ (id : Bytes). record { kind = f .kind; id = id }) (sym (x .told .named))
+
+  moved : v ≡ movedBy l (f .refusal) message
+  unfolding movedBy
+  moved = ev ∙ ap (movedFor l (f .refusal)) (sym event)
+
+  module _ {old new : Bytes} {w : Count} (y : Answers s (v .refusal) asks alive old new w) where
+    wrote : Written s message (v .refusal) old new w
+    wrote = y .says message (ea ∙ asks-cells cells (f .id) (f .kind)) same-id
+
+    into-no-room : {after : List ℕ} {r : Receipt} → (w .refusal ≡ 0 → ⊥) → after ≡ replicate NUMBERS 0 → r ≡ noReceipt l → ReceivesInto l s old new after r
+    into-no-room {after} {r} n z e =
+        subst (λ (r : Receipt). ReceivesInto l s old new after r) (sym e) (subst (λ (c : List ℕ). ReceivesInto l s old new c (noReceipt l)) (sym z)
+        (record { receives = is-no-room l (x .checks) moved wrote n (room-lacks l (blank-is 0 noId)); told-so = blank-told 0 }))
+
+    into-refused : {after : List ℕ} {r : Receipt} → w .refusal ≡ 0 → (v .refusal ≡ 0 → ⊥) → after ≡ replicate NUMBERS 0 → r ≡ refusedBy f v (w .count) → ReceivesInto l s old new after r
+    into-refused {after} {r} h n z e =
+        subst (λ (r : Receipt). ReceivesInto l s old new after r) (sym e) (subst (λ (c : List ℕ). ReceivesInto l s old new c (refusedBy f v (w .count))) (sym z)
+        (record { receives = is-told l (x .checks) moved wrote h (told-refused (handedBy f cells) v (w .count) n (blank-is 0 noId)); told-so = blank-told 0 }))
+
+    into-told : {r : Receipt} → w .refusal ≡ 0 → v .refusal ≡ 0 → r ≡ toldBy f v (w .count) → ReceivesInto l s old new cells r
+    into-told {r} h z e =
+        subst (λ (r : Receipt). ReceivesInto l s old new cells r) (sym e) (record { receives = is-told l (x .checks) moved wrote h (told-accepted (handedBy f cells) v (w .count) z); told-so = x .told })
+
+    zeros-so : {after : List ℕ} → after ≡ replicate (length cells) 0 → after ≡ replicate NUMBERS 0
+    zeros-so e = e ∙ ap (λ (n : ℕ). replicate n 0) (x .long)
+
+    pub into-all : {after : List ℕ} {r : Receipt} → Finishes l f v w cells after r → ReceivesInto l s old new after r
+    into-all (lacks-room n e h) = into-no-room n (zeros-so e) h
+    into-all (refuses z n e h) = into-refused z n (zeros-so e) h
+    into-all {after} {r} (tells z y e h) = subst (λ (c : List ℕ). ReceivesInto l s old new c r) (sym e) (into-told z y h)
+
+-- the struct that the cells are
+pub received-as : {l : Lane} {s old new : Bytes} {cells : List ℕ} {r : Receipt} {m : Message} → ReceivesInto l s old new cells r → m ≡ messageBy (r .kind) cells (r .id)
+    → Receives l s old new (record { refusal = r .refusal; lane = r .lane; order = r .order; used = r .used; written = r .written; place = r .place; message = m })
+received-as {l} {s} {old} {new} {cells} {r} x e =
+    subst (λ (m : Message). Receives l s old new (record { refusal = r .refusal; lane = r .lane; order = r .order; used = r .used; written = r .written; place = r .place; message = m })) (sym e) (x .receives)

@@ -1,6 +1,6 @@
 -- Each answer of sending.
 use mathlib.Core.Path.{_≡_, refl, sym, ap, _∙_}
-use mathlib.Core.List.{_++_}
+use mathlib.Core.List.{List, _++_}
 use mathlib.Core.Bool.{Bool, true, false, cond}
 use mathlib.Core.Logic.{⊎-elim}
 use Prim.Native.Nat.{ℕ}
@@ -9,14 +9,20 @@ use lib.ListN.{length, drop}
 use lib.Dec.{T, eqb, leb}
 use borrow.Author.Tests.{ne-eqb, eq-eqb, eqb-true}
 use Rattle.lane.specs.Chart.{both, isFree, Sent as IsSent, chart, next}
-use Rattle.lane.specs.Record.{carriesOwn, stepOut}
+use Rattle.lane.specs.Record.{carriesOwn, stepOut, sent}
 use Rattle.lane.specs.Laws.{by-rows, next-cases, sent-by}
+use Rattle.lane.specs.declared.Event.{Event}
 use Rattle.lane.specs.declared.Lane.{Lane}
 use Rattle.lane.specs.declared.Moved.{Moved}
 use Rattle.lane.specs.declared.chart.Step.{Step}
 use Rattle.lane.specs.declared.chart.Step.the-variants.{To, NoTransition}
 use Rattle.grammar.specs.Bytes.{Bytes, within}
+use Rattle.message.specs.Fields.{fieldsOf, messageFrom}
+use Rattle.message.specs.Cells.{messageBy, idOf, idCell, idBy}
 use Rattle.message.specs.declared.kinds.Message.{Message}
+use Rattle.structs.specs.Laid.{Lays}
+use Rattle.structs.proofs.KindLaws.{id-of-cells}
+use Rattle.writes.proofs.KindLaws.{again-refused, again-written, again-named}
 use Rattle.table.specs.Table.{isKind}
 use Rattle.table.specs.Theorems.{kinds-are}
 use Rattle.meant.specs.Meant.{refusalOf}
@@ -128,3 +134,35 @@ module _ (l : Lane) (m : Message) (texts : Bytes) {v : Moved} (ev : v ≡ movedB
           where
             not-zero : (n : ℕ) → eqb n 0 ≡ false → n ≡ 0 → ⊥
             not-zero n f e = let q : true ≡ false = sym (eq-eqb n 0 e) ∙ f in let p : _≡_ {A = ℕ} 0 1 = cc in omega arith
+
+-- a message of cells moves the lane as its event
+pub moved-by : (l : Lane) (k : ℕ) (cells : List ℕ) (id : Bytes) {n : Bytes} {v : Moved} → n ≡ idBy (idCell k) cells id → v ≡ sent l (record { kind = k; id = n }) → v ≡ movedBy l (messageBy k cells id)
+unfolding messageFrom
+moved-by l k cells id e f = f ∙ ap (λ (n : Bytes). sent l (record { kind = k; id = n })) (e ∙ sym (id-of-cells cells id k))
+
+-- a message is sent as the one that its cells are
+unfoldable answerFor : Lane → ℕ → Bytes → Event → ℕ → Sent
+answerFor l n w e room =
+    cond (eqb n 0)
+    (cond (eqb (sent l e .refusal) 0)
+    (cond (leb (length w) room) (record { refusal = 0; lane = sent l e .lane; order = sent l e .order; written = length w }) (kept l 7)) (kept l 8))
+    (kept l n)
+
+unfoldable bufferFor : Lane → ℕ → Bytes → Event → Bytes → Bytes
+bufferFor l n w e old = cond (eqb n 0) (cond (eqb (sent l e .refusal) 0) (cond (leb (length w) (length old)) (w ++ drop (length w) old) old) old) old
+
+module _ (l : Lane) (m : Message) (texts : Bytes) {id : Bytes} {cells₀ cells : List ℕ} (laid : Lays (fieldsOf m) cells₀ cells) (ei : id ≡ idOf m) where
+  same-event : eventOf (messageBy (m .kind) cells id) ≡ eventOf m
+  unfolding messageFrom
+  same-event = ap (λ (n : Bytes). record { kind = m .kind; id = n }) (again-named m texts laid ei)
+
+  pub sends-again : {old new : Bytes} {r : Sent} → Sends l (messageBy (m .kind) cells id) texts old new r → Sends l m texts old new r
+  unfolding answerOf bufferOf answerFor bufferFor
+  sends-again {old} x =
+      let a = again-refused m texts laid ei in
+      let b = again-written m texts laid ei in
+      let m′ = messageBy (m .kind) cells id in
+      record {
+        answer = x .answer ∙ ap (λ (n : ℕ). answerFor l n (writtenOf m′ texts) (eventOf m′) (length old)) a ∙ ap (λ (w : Bytes). answerFor l (refusalOf m texts) w (eventOf m′) (length old)) b ∙ ap (λ (e : Event). answerFor l (refusalOf m texts) (writtenOf m texts) e (length old)) same-event;
+        buffer = x .buffer ∙ ap (λ (n : ℕ). bufferFor l n (writtenOf m′ texts) (eventOf m′) old) a ∙ ap (λ (w : Bytes). bufferFor l (refusalOf m texts) w (eventOf m′) old) b ∙ ap (λ (e : Event). bufferFor l (refusalOf m texts) (writtenOf m texts) e old) same-event;
+      }

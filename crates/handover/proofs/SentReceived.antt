@@ -29,8 +29,8 @@ use Rattle.reads.proofs.Theorems.{handed-out}
 use Rattle.meant.specs.Meant.{meantOf, refusalOf}
 use Rattle.meant.specs.Written.{writtenOf}
 use Rattle.meant.proofs.Theorems.{reads-back, written-small}
-use Rattle.replies.specs.Replies.{SameId}
-use Rattle.replies.proofs.Theorems.{reply-reads-back}
+use Rattle.written_back.specs.Replies.{SameId}
+use Rattle.written_back.proofs.Theorems.{reply-reads-back}
 use Rattle.handover.specs.Receiving.{asksReply, Owes, nothing-yet, a-notice, a-reply, no-reply, Receives}
 use Rattle.handover.specs.Sending.{Sends}
 use Rattle.handover.specs.declared.receiving.Received.{Received}

@@ -14,9 +14,10 @@ use Rattle.value.specs.Text.{Text}
 use Rattle.value.specs.declared.text.Span.{Span}
 use Rattle.value.specs.declared.text.Words.{Words}
 use Rattle.value.specs.declared.text.Words.the-variants.{Absent as NoWords, Present as IsWords}
-use Rattle.table.specs.Table.{words, table, rowsOf}
+use Rattle.table.specs.Table.{words, Row, table, rowsOf}
+use Rattle.table.specs.Theorems.{rows-table}
 use Rattle.table.specs.Says.{judged, given, tried, refusalIn, first, refusalOf, childOf, saidOf}
-use Rattle.message.specs.Fields.{fieldOf, fieldsIn, messageFrom, aliveFrom, only, blank}
+use Rattle.message.specs.Fields.{fieldFor, fieldsIn, messageFrom, aliveFrom, only, blank}
 use Rattle.message.specs.Checked.{Checks, ends, more, malformed, too-long, checkedAs, unread, messageOf}
 use Rattle.message.specs.Handed.{Has, has-here, has-later, attributesOf, ReadsAt, HandedOut}
 use Rattle.message.specs.declared.checking.Checked.{Checked}
@@ -47,7 +48,7 @@ first-zero (suc a) b e = absurd (omega arith)
 
 -- of a CheckAlive that is not refused, an Id that it has is of at most 80 bytes
 id-kept : (t : Tree) (v : Bytes) → refusalOf (rowsOf 10) t ≡ 0 → Has (text "Id") v (attributesOf t) → length v ≤ 80
-unfolding rowsOf table refusalOf tried
+unfolding table refusalOf tried
 id-kept (tree n a f) v e h =
     let x = first-zero (refusalIn (given _ true (text "Type") a)) (first (refusalIn (given (words 80) true (text "Id") a)) 0) e in
     let y = first-zero (refusalIn (given (words 80) true (text "Id") a)) 0 (x .1) in
@@ -55,7 +56,7 @@ id-kept (tree n a f) v e h =
 
 -- where the Id of a message stands
 pub place-of-id : (k : ℕ) (place : Bytes → Words) (t : Tree) → k ≡ 10 → messageOf k place t .alive .id ≡ place (text "Id")
-unfolding messageFrom fieldsIn fieldOf rowsOf table
+unfolding messageFrom fieldsIn fieldFor table
 place-of-id k place t e = rw e
 
 no-id-of : (k : ℕ) (place : Bytes → Words) (t : Tree) → (k ≡ 10 → ⊥) → messageOf k place t .alive .id ≡ NoWords
@@ -71,7 +72,7 @@ handed-sound {s} {r} h z = go (eqb (saidOf (h .reading) .kind) 10) refl
     there : saidOf (h .reading) .kind ≡ 10 → Sound s (r .message .alive .id)
     there e p f =
         let x = h .there (text "Id") p (sym (at-id e) ∙ f) in
-        (x .value, x .text, x .inside, id-kept (childOf (h .reading)) (x .value) (ap (λ (k : ℕ). refusalOf (rowsOf k) (childOf (h .reading))) (sym e) ∙ z) (x .has))
+        (x .value, x .text, x .inside, id-kept (childOf (h .reading)) (x .value) (ap (λ (k : ℕ). refusalOf (rowsOf k) (childOf (h .reading))) (sym e) ∙ sym (ap (λ (l : List Row). refusalOf l (childOf (h .reading))) (rows-table (saidOf (h .reading) .kind) (childOf (h .reading)))) ∙ z) (x .has))
 
     go : (b : Bool) → eqb (saidOf (h .reading) .kind) 10 ≡ b → Sound s (r .message .alive .id)
     go true e = there (eqb-true (saidOf (h .reading) .kind) 10 e)
@@ -85,7 +86,7 @@ check-sound {s} {r} (ends start end p l w e) = go (eqb (saidOf (readLayout l) .r
 
     accepted : saidOf (readLayout l) .refusal ≡ 0 → Sound s (r .message .alive .id)
     accepted z =
-        let h = handed-out (ends start end p l w e) (refusal-is ∙ z) in
+        let h = handed-out {by = table} (ends start end p l w e) (refusal-is ∙ z) in
         let m : IsMessage (take (r .end - r .start) (drop (r .start) s)) (readLayout l) = subst (λ (c : Checked). IsMessage (take (c .end - c .start) (drop (c .start) s)) (readLayout l)) (sym e) (record { layout = l; laid = w; reads = refl }) in
         handed-sound h (ap (λ (t : Tree). saidOf t .refusal) (sym (h .one (readLayout l) m)) ∙ z)
 

@@ -30,8 +30,8 @@ use Rattle.message.specs.declared.checking.Checked.{Checked}
 use Rattle.message.specs.declared.kinds.Message.{Message}
 use Rattle.reads.proofs.Theorems.{check-only, handed-out}
 use Rattle.meant.specs.Written.{writtenOf}
-use Rattle.replies.specs.First.{firstIn}
-use Rattle.replies.specs.Replies.{sameOf, Reply, same-id, no-id}
+use Rattle.written_back.specs.First.{firstIn}
+use Rattle.written_back.specs.Replies.{sameOf, Reply, same-id, no-id}
 use Rattle.handover.specs.Receiving.{asksReply, movedBy, Owes, answerOf, Receives}
 use Rattle.handover.specs.declared.receiving.Received.{Received}
 use Rattle.handover.proofs.SoundLaws.{place-of-id}

@@ -23,30 +23,27 @@ use Rattle.lane.specs.declared.Lane.{Lane}
 use Rattle.lane.specs.declared.Moved.{Moved}
 use Rattle.lane.specs.declared.chart.Step.{Step}
 use Rattle.lane.specs.declared.chart.Step.the-variants.{To, NoTransition}
-use Rattle.table.specs.Table.{rowsOf}
-use Rattle.table.specs.Says.{childOf, saidOf}
+use Rattle.table.specs.Table.{table, rowsOf}
+use Rattle.table.specs.Says.{childOf, saidOf, rowsFor}
 use Rattle.message.specs.Checked.{Checks, ends, more, malformed, too-long}
 use Rattle.message.specs.declared.checking.Checked.{Checked}
 use Rattle.message.specs.declared.kinds.Message.{Message}
 use Rattle.reads.proofs.Theorems.{check-only}
 use Rattle.message.specs.Fields.{fieldsOf}
-use Rattle.meant.specs.Meant.{refusalOf}
+use Rattle.meant.specs.Meant.{refusalOf, rowsWith}
 use Rattle.meant.specs.Written.{writtenOf}
 use Rattle.meant.specs.Notices.{description, notice}
-use Rattle.replies.specs.First.{firstIn}
-use Rattle.replies.specs.Replies.{Reply}
-use Rattle.replies.proofs.Theorems.{reply-one, reply-long}
-use Rattle.handover.specs.Ids.{boardId, eventOf}
+use Rattle.written_back.specs.First.{firstIn}
+use Rattle.written_back.specs.Replies.{Reply}
+use Rattle.written_back.proofs.Theorems.{reply-one, reply-long}
+use Rattle.message.specs.Cells.{idOf}
+use Rattle.handover.specs.Ids.{eventOf}
 use Rattle.handover.specs.Receiving.{asksReply, movedBy, Owes, nothing-yet, a-notice, a-reply, no-reply, noRoom, told, answerOf, Receives}
 use Rattle.handover.specs.Sending as sending
 use Rattle.handover.specs.Sending.{Sends}
 use Rattle.handover.specs.declared.receiving.Received.{Received}
 use Rattle.handover.specs.declared.sending.Sent.{Sent}
 use Rattle.handover.proofs.ListedLaws.{Listed, table-listed, meant-listed}
-
--- no second id satisfies the promise of `board_id`
-pub id-only : (m : Message) {r r′ : Bytes} → r ≡ boardId m → r′ ≡ boardId m → r ≡ r′
-id-only m e f = e ∙ sym f
 
 -- what is owed for two inputs is the same, if a reply is
 pub owes-alike : {a b d d′ : Bytes} {m : Message} {n : ℕ} → (n ≡ 0 → asksReply m ≡ true → Reply a (m .alive .id) d → Reply b (m .alive .id) d′ → d ≡ d′) → Owes a m n d → Owes b m n d′ → d ≡ d′
@@ -106,7 +103,7 @@ low-listed n e = go (eqb n 0) refl (eqb n 4) refl (eqb n 5) refl (eqb n 6) refl
     go false ea false eb false ec false ed = clash (sym e ∙ rw (ea, eb, ec, ed) refl)
 
 pub checked-low : {s : Bytes} {c : Checked} → Checks s c → Low (c .refusal)
-checked-low (ends start end p l w e) = subst (λ (c : Checked). Low (c .refusal)) (sym e) (low-listed (saidOf (readLayout l) .refusal) (table-listed (rowsOf (saidOf (readLayout l) .kind)) (childOf (readLayout l))))
+checked-low (ends start end p l w e) = subst (λ (c : Checked). Low (c .refusal)) (sym e) (low-listed (saidOf (readLayout l) .refusal) (table-listed (rowsFor table (saidOf (readLayout l) .kind) (childOf (readLayout l))) (childOf (readLayout l))))
 checked-low (more start p e) = subst (λ (c : Checked). Low (c .refusal)) (sym e) refl
 checked-low (malformed start place p e) = subst (λ (c : Checked). Low (c .refusal)) (sym e) refl
 checked-low (too-long start p e) = subst (λ (c : Checked). Low (c .refusal)) (sym e) refl
@@ -202,7 +199,7 @@ only-one l n m e =
     (λ f. cases (eqb n 1) (λ g. eqb-true n 1 g) (λ g. rw (f, g) at e))
 
 more-ends : {s : Bytes} {c : Checked} → Checks s c → c .refusal ≡ 1 → c .end ≡ 0
-more-ends (ends start end p l w e) h = absurd (not-one (saidOf (readLayout l) .refusal) (table-listed (rowsOf (saidOf (readLayout l) .kind)) (childOf (readLayout l))) (sym (ap (λ (c : Checked). c .refusal) e) ∙ h))
+more-ends (ends start end p l w e) h = absurd (not-one (saidOf (readLayout l) .refusal) (table-listed (rowsFor table (saidOf (readLayout l) .kind) (childOf (readLayout l))) (childOf (readLayout l))) (sym (ap (λ (c : Checked). c .refusal) e) ∙ h))
   where
     not-one : (n : ℕ) → Listed n → n ≡ 1 → ⊥
     not-one n h e = clash (let x : false ≡ true = rw e at h in sym x)
@@ -383,7 +380,7 @@ module _ {l : Lane} {m : Message} {texts old new : Bytes} {r : Sent} (p : Sends 
       at e h = subst (λ (r : Sent). among (r .refusal) (0 ∷ 4 ∷ 5 ∷ 6 ∷ 7 ∷ 8 ∷ []) ≡ true) (sym e) h
 
       go : Decides l m texts old new r → among (r .refusal) (0 ∷ 4 ∷ 5 ∷ 6 ∷ 7 ∷ 8 ∷ []) ≡ true
-      go (refused-by n e f) = at e (among-more (refusalOf m texts) (0 ∷ 4 ∷ 5 ∷ 6 ∷ []) (7 ∷ 8 ∷ []) (meant-listed (rowsOf (m .kind)) (fieldsOf m) texts))
+      go (refused-by n e f) = at e (among-more (refusalOf m texts) (0 ∷ 4 ∷ 5 ∷ 6 ∷ []) (7 ∷ 8 ∷ []) (meant-listed (rowsWith (rowsOf (m .kind)) (fieldsOf m)) (fieldsOf m) texts))
       go (may-not a n e f) = at e refl
       go (lacks-room a b h e f) = at e refl
       go (goes a b h e f) = at e refl
@@ -393,7 +390,7 @@ module _ {l : Lane} {m : Message} {texts old new : Bytes} {r : Sent} (p : Sends 
   send-seven-iff = (to (decides p), from (decides p))
     where
       to : Decides l m texts old new r → r .refusal ≡ 7 → (refusalOf m texts ≡ 0) × (sending.movedBy l m .refusal ≡ 0) × (length old < length (writtenOf m texts))
-      to (refused-by n e f) h = absurd (no-seven (refusalOf m texts) (meant-listed (rowsOf (m .kind)) (fieldsOf m) texts) (sym (ap (λ (r : Sent). r .refusal) e) ∙ h))
+      to (refused-by n e f) h = absurd (no-seven (refusalOf m texts) (meant-listed (rowsWith (rowsOf (m .kind)) (fieldsOf m)) (fieldsOf m) texts) (sym (ap (λ (r : Sent). r .refusal) e) ∙ h))
         where
           no-seven : (n : ℕ) → Listed n → n ≡ 7 → ⊥
           no-seven n h e = clash (let x : false ≡ true = rw e at h in sym x)

@@ -21,8 +21,8 @@ use Rattle.message.specs.declared.checking.Checked.{Checked}
 use Rattle.message.specs.declared.kinds.Message.{Message}
 use Rattle.meant.specs.Written.{writtenOf}
 use Rattle.meant.specs.Notices.{notice}
-use Rattle.replies.specs.First.{firstIn}
-use Rattle.replies.specs.Replies.{sameOf, bareOf, Reply, same-id, no-id}
+use Rattle.written_back.specs.First.{firstIn}
+use Rattle.written_back.specs.Replies.{sameOf, bareOf, Reply, same-id, no-id}
 use Rattle.handover.specs.Receiving.{asksReply, movedBy, Owes, nothing-yet, a-notice, a-reply, no-reply, answerOf, Receives, Sound}
 use Rattle.handover.specs.Sending as sending
 use Rattle.handover.specs.Sending.{Sends}

@@ -12,7 +12,7 @@ use Rattle.model.specs.Characters.{plainByte, charP}
 use Rattle.number.specs.Bytes.{hex, digit, all as every, before, behind, pointed}
 use Rattle.number.specs.Guid.{guidOf, filled, may}
 use Rattle.number.specs.Version.{oneToThree, versionOf}
-use Rattle.writing.specs.Decided.{isText, textFrom}
+use Rattle.spelling.specs.Decided.{isText, textFrom}
 use Rattle.lane.specs.Names.{U, D, NotConnected, Both, Unknown, ServiceDescription, BoardAvailable, MachineReady, StartTransport, StopTransport, TransportFinished, NoOrder}
 use Rattle.lane.specs.Chart.{chart, byRows, next}
 use Rattle.lane.specs.Record.{noId, fresh, other, sent}
@@ -29,7 +29,7 @@ use Rattle.message.specs.declared.kinds.Message.{Message}
 use Rattle.message.specs.Fields.{fieldsOf}
 use Rattle.meant.specs.Meant.{meantBy, meantOf, refusalOf}
 use Rattle.meant.specs.Written.{writtenOf}
-use Rattle.handover.specs.Ids.{boardId}
+use Rattle.message.specs.Cells.{idOf}
 use Rattle.handover.specs.Mirror.{Mirrored}
 use Rattle.handover.specs.Sending.{movedBy}
 use Rattle.handover.specs.Exchange.{Passing, Passes, Line, Said, fromU, fromD, lineOf, laneAt, Says, Exchanges, Goes, AllGo, handover}
@@ -145,7 +145,7 @@ Fine (x ∷ xs) [] = ⊥
 Fine (x ∷ xs) (m ∷ ms) = Says (lineOf x) m × (refusalOf m texts ≡ 0) × Fine xs ms
 
 samples-fine : Fine (handover board) samples
-unfolding messageFrom boardId fieldsOf rowsOf table meantOf meantBy within isText textFrom charP plainByte isChar guidOf filled may hex digit versionOf oneToThree every before behind pointed
+unfolding messageFrom idOf fieldsOf table meantOf meantBy within isText textFrom charP plainByte isChar guidOf filled may hex digit versionOf oneToThree every before behind pointed
 samples-fine = (refl, refl, (refl, refl, (refl, refl, (refl, refl, (refl, refl, (refl, refl, (refl, refl, tt)))))))
 
 pub service-good : refusalOf service texts ≡ 0

@@ -30,7 +30,7 @@ use Rattle.lane.specs.declared.Lane.{Lane}
 use Rattle.value.specs.declared.text.Words.{Words}
 use Rattle.table.specs.Table.{table, rowsOf, kindOf}
 use Rattle.table.specs.Says.{judged, tried, refusalOf, childOf, saidOf}
-use Rattle.message.specs.Fields.{fieldOf, fieldsIn, messageFrom}
+use Rattle.message.specs.Fields.{fieldFor, fieldsIn, messageFrom}
 use Rattle.message.specs.Checked.{messageOf}
 use Rattle.message.specs.declared.checking.Checked.{Checked}
 use Rattle.message.specs.declared.kinds.Message.{Message}
@@ -53,7 +53,7 @@ ping = "<Hermes><CheckAlive Type=\"1\" Id=\"a\"/></Hermes>"
 
 ping-reads : (messageP (text ping) ≡ done (readingOf ping) []) × (saidOf (readingOf ping) .kind ≡ CheckAlive) × (saidOf (readingOf ping) .refusal ≡ 0)
     × ((place : Bytes → Words) → asksReply (messageOf (saidOf (readingOf ping) .kind) place (childOf (readingOf ping))) ≡ true)
-unfolding readValue readItem utf8 loopP within digit isChar isGlue letter nameStart nameByte isQuote banned plainByte charP closeP elemP leafTagP nodeTagP contentTurnP contentP fillP rootP layoutP messageP live new itemP VturnP valueP endP quotedP equalsP attrP AturnP headP table rowsOf kindOf tried refusalOf intOf signed sized trim dropBack dropFront keepBefore blank someByte every isDigit valueFrom judged messageFrom fieldsIn fieldOf asksReply
+unfolding readValue readItem utf8 loopP within digit isChar isGlue letter nameStart nameByte isQuote banned plainByte charP closeP elemP leafTagP nodeTagP contentTurnP contentP fillP rootP layoutP messageP live new itemP VturnP valueP endP quotedP equalsP attrP AturnP headP table tried refusalOf intOf signed sized trim dropBack dropFront keepBefore blank someByte every isDigit valueFrom judged messageFrom fieldsIn fieldFor asksReply
 ping-reads = (refl, refl, refl, λ place. refl)
 
 -- in every lane it is accepted and asks for a reply: `receive-reply` says which

@@ -38,10 +38,11 @@ use Rattle.lane.specs.declared.Lane.{Lane}
 use Rattle.lane.specs.declared.Moved.{Moved}
 use Rattle.table.specs.Table.{table, rowsOf, kindOf}
 use Rattle.table.specs.Says.{judged, tried, refusalOf, childOf, saidOf}
-use Rattle.message.specs.Fields.{fieldOf, fieldsIn, messageFrom}
+use Rattle.message.specs.Fields.{fieldFor, fieldsIn, messageFrom}
 use Rattle.message.specs.Checked.{messageOf}
 use Rattle.value.specs.declared.text.Words.{Words}
-use Rattle.handover.specs.Ids.{boardId, eventOf}
+use Rattle.message.specs.Cells.{idOf}
+use Rattle.handover.specs.Ids.{eventOf}
 
 pub data Case : Type 0 where
   reads : String → Answer → Case
@@ -121,5 +122,5 @@ All [] = Unit {0}
 All (c ∷ l) = Holds c × All l
 
 pub bench-holds : All bench
-unfolding readValue readItem utf8 loopP within digit isChar isGlue letter nameStart nameByte hexDigit worth isQuote banned leading following answerAt answerOf second3 third3 second4 plainByte charP versionP encodingP yesNoP settingP behindStandaloneP standaloneOrEndP behindEncodingP behindVersionP declarationP closeP elemP leafTagP nodeTagP contentTurnP contentP fillP rootP layoutP messageP live new alive namedP refP itemP VturnP valueP endP quotedP equalsP attrP AturnP headP begun okay numberP table rowsOf kindOf tried refusalOf intOf signed sized trim dropBack dropFront keepBefore blank someByte all isDigit valueFrom judged guidOf filled may hex boardId messageFrom fieldsIn fieldOf numberOf parted unsigned decimal written short above millionths before behind received sameId next byRows chart
+unfolding readValue readItem utf8 loopP within digit isChar isGlue letter nameStart nameByte hexDigit worth isQuote banned leading following answerAt answerOf second3 third3 second4 plainByte charP versionP encodingP yesNoP settingP behindStandaloneP standaloneOrEndP behindEncodingP behindVersionP declarationP closeP elemP leafTagP nodeTagP contentTurnP contentP fillP rootP layoutP messageP live new alive namedP refP itemP VturnP valueP endP quotedP equalsP attrP AturnP headP begun okay numberP table tried refusalOf intOf signed sized trim dropBack dropFront keepBefore blank someByte all isDigit valueFrom judged guidOf filled may hex idOf messageFrom fieldsIn fieldFor numberOf parted unsigned decimal written short above millionths before behind received sameId next byRows chart
 bench-holds = (refl, ((refl, refl, refl, refl), (refl, (refl, ((refl, refl, refl, refl), (refl, (refl, (refl, (refl, (refl, (refl, (refl, (refl, (refl, (refl, (refl, ((refl, refl, λ place. refl), ((refl, refl, λ place. refl), tt))))))))))))))))))

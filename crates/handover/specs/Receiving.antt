@@ -1,12 +1,13 @@
 -- What receiving promises.
 use mathlib.Core.Path.{_≡_}
-use mathlib.Core.List.{[]}
+use mathlib.Core.List.{List, []}
 use mathlib.Core.Bool.{Bool, true, false, _&&_, cond}
 use Prim.Native.Nat.{ℕ, _+_, _≤_}
-use lib.ListN.{length, take, drop}
+use lib.ListN.{length, take, drop, replicate}
 use lib.Dec.{eqb, leb}
 use Rattle.lane.specs.Names.{NoOrder, CheckAlive}
-use Rattle.lane.specs.Record.{ended, kept, received}
+use Rattle.lane.specs.Record.{noId, ended, kept, received}
+use Rattle.lane.specs.declared.Event.{Event}
 use Rattle.lane.specs.declared.Lane.{Lane}
 use Rattle.lane.specs.declared.Moved.{Moved}
 use Rattle.grammar.specs.Bytes.{Bytes}
@@ -14,6 +15,7 @@ use Rattle.value.specs.Text.{Text}
 use Rattle.value.specs.declared.text.Span.{Span}
 use Rattle.value.specs.declared.text.Words.{Words}
 use Rattle.value.specs.declared.text.Words.the-variants.{Present as IsWords}
+use Rattle.message.specs.Cells.{wholeBy, messageBy, Told}
 use Rattle.message.specs.Checked.{Checks}
 use Rattle.message.specs.Fields.{blank}
 use Rattle.message.specs.declared.checking.Checked.{Checked}
@@ -21,10 +23,12 @@ use Rattle.message.specs.declared.values.Whole.{Whole}
 use Rattle.message.specs.declared.values.Whole.the-variants.{Absent as NoWhole, Present as IsWhole}
 use Rattle.message.specs.declared.kinds.Message.{Message}
 use Rattle.meant.specs.Notices.{notice}
+use Rattle.reads.specs.declared.checking.Found.{Found}
 use Rattle.writes.specs.declared.messages.Written.{Written as Count}
-use Rattle.replies.specs.First.{First, firstIn}
-use Rattle.replies.specs.Replies.{Reply}
+use Rattle.written_back.specs.First.{First, firstIn}
+use Rattle.written_back.specs.Replies.{Reply}
 use Rattle.handover.specs.Ids.{eventOf}
+use Rattle.handover.specs.declared.receiving.Receipt.{Receipt}
 use Rattle.handover.specs.declared.receiving.Received.{Received}
 
 -- "A received CheckAlive of Type 1 is replied to"
@@ -36,8 +40,11 @@ unfoldable pub asksReply : Message → Bool
 asksReply m = eqb (m .kind) CheckAlive && isPing (m .alive .ping)
 
 -- "Attributes are tried in table order, each for 4, 5, 6; the first decides, then 9": what `check` refuses does not reach the chart. 1 keeps the record.
+abbrev pub movedFor : Lane → ℕ → Event → Moved
+movedFor l n e = cond (eqb n 0) (received l e) (cond (eqb n 1) (kept l 1) (ended l n))
+
 unfoldable pub movedBy : Lane → ℕ → Message → Moved
-movedBy l n m = cond (eqb n 0) (received l (eventOf m)) (cond (eqb n 1) (kept l 1) (ended l n))
+movedBy l n m = movedFor l n (eventOf m)
 
 -- the bytes b that are to be written where the refusal is n: "Notification" for one that ends the connection, the reply to a CheckAlive of Type 1,
 -- and "Nothing else accepted has a reply."
@@ -84,3 +91,42 @@ pub record Written (s : Bytes) (m : Message) (n : ℕ) (old new : Bytes) (w : Co
   pub due : Bytes
   pub owes : Owes s m n due
   pub first : First due old new w
+
+-- so for each message that asks for a reply or not, and has that Id
+pub record Answers (s : Bytes) (n : ℕ) (asks : Bool) (id : Words) (old new : Bytes) (w : Count) : Type 0 where
+  pub says : (m : Message) → asks ≡ asksReply m → (asks ≡ true → id ≡ m .alive .id) → Written s m n old new w
+
+-- The same with a message's cells and its BoardId instead of the message.
+abbrev pub asksBy : ℕ → ℕ → ℕ → Bool
+asksBy k t n = eqb k CheckAlive && isPing (wholeBy t n)
+
+abbrev pub noReceipt : Lane → Receipt
+noReceipt l = record { refusal = 7; lane = l; order = NoOrder; used = 0; written = 0; place = 0; kind = 0; id = noId }
+
+abbrev pub refusedBy : Found → Moved → ℕ → Receipt
+refusedBy f v n = record { refusal = v .refusal; lane = v .lane; order = v .order; used = f .end; written = n; place = f .place; kind = 0; id = noId }
+
+abbrev pub toldBy : Found → Moved → ℕ → Receipt
+toldBy f v n = record { refusal = v .refusal; lane = v .lane; order = v .order; used = f .end; written = n; place = f .place; kind = f .kind; id = f .id }
+
+-- which of the three; cells that no accepted message stands in are zeros
+pub data Finishes (l : Lane) (f : Found) (v : Moved) (w : Count) (before after : List ℕ) (r : Receipt) : Type 0 where
+  lacks-room : (w .refusal ≡ 0 → ⊥) → after ≡ replicate (length before) 0 → r ≡ noReceipt l → Finishes l f v w before after r
+  refuses : w .refusal ≡ 0 → (v .refusal ≡ 0 → ⊥) → after ≡ replicate (length before) 0 → r ≡ refusedBy f v (w .count) → Finishes l f v w before after r
+  tells : w .refusal ≡ 0 → v .refusal ≡ 0 → after ≡ before → r ≡ toldBy f v (w .count) → Finishes l f v w before after r
+
+abbrev pub receivedBy : Receipt → List ℕ → Received
+receivedBy r cells = record {
+  refusal = r .refusal;
+  lane = r .lane;
+  order = r .order;
+  used = r .used;
+  written = r .written;
+  place = r .place;
+  message = messageBy (r .kind) cells (r .id);
+}
+
+-- it is what receiving answers, and the cells and the id are told as that message is
+pub record ReceivesInto (l : Lane) (s old new : Bytes) (cells : List ℕ) (r : Receipt) : Type 0 where
+  pub receives : Receives l s old new (receivedBy r cells)
+  pub told-so : Told (r .kind) cells (r .id)

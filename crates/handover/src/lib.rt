@@ -3,9 +3,11 @@ mod ids;
 mod receiving;
 mod sending;
 
-pub use ids::board_id;
 pub use lane::Lane;
+pub use receiving::Receipt;
 pub use receiving::Received;
 pub use receiving::receive;
+pub use receiving::receive_into;
 pub use sending::Sent;
 pub use sending::send;
+pub use sending::send_from;

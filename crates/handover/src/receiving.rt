@@ -1,14 +1,20 @@
 // Receiving: the message that an input starts with, what it does to the lane, and what is written back.
 ghost use mathlib.Core.Path.{_≡_};
-ghost use Rattle.handover.specs.Receiving.{asksReply, movedBy, told as toldOf, noRoom, Sound, Written as Answered, Receives};
-use crate::ids::event_of;
+ghost use mathlib.Core.Bool.{true};
+ghost use lib.ListN.{replicate};
+ghost use Rattle.message.specs.Cells.{NUMBERS};
+ghost use Rattle.handover.specs.Receiving.{asksBy, movedFor, noReceipt, refusedBy, toldBy, Sound, Answers, Finishes, Receives, ReceivesInto};
+use lane::Event;
 use lane::Kind;
 use lane::Lane;
 use lane::Moved;
 use lane::Order;
-use message::Checked;
 use message::kinds::Message;
-use message::values::Whole;
+use reads::Found;
+use structs::clear;
+use structs::message_of;
+use structs::text_from;
+use value::Words;
 use writes::Written;
 
 /// What receiving answers: the refusal; the lane after it and the belt order; how many bytes of the input are used, how many of the buffer
@@ -23,28 +29,37 @@ pub struct Received {
     pub message: Message,
 }
 
-// Whether a message is a CheckAlive of Type 1.
-fn asks_reply(m: Message) -> bool
-    ensures { λ r. ⌜ r ≡ asksReply m ⌝ }
+/// The same, but for what the message says: its kind and its BoardId.
+pub struct Receipt {
+    pub refusal: u8,
+    pub lane: Lane,
+    pub order: u8,
+    pub used: usize,
+    pub written: usize,
+    pub place: usize,
+    pub kind: u8,
+    pub id: [u8; 36],
+}
+
+// Whether a message is a CheckAlive of Type 1, by its first cell.
+fn asks_reply(kind: u8, there: u64, n: u64) -> bool
+    ensures { λ r. ⌜ r ≡ asksBy kind there n ⌝ }
 {
-    let kind = m.kind;
     if kind == Kind::CHECK_ALIVE {
-        let alive = m.alive;
-        let ping = alive.ping;
-        let Whole::Present(n) = ping else {
+        if there == 0 {
             return false;
-        };
+        }
         return n == 1;
     }
     false
 }
 
 // What the lane becomes: 0 by the chart; 1 keeps it; every other refusal ends the connection.
-fn moved_by(lane: Lane, refusal: u8, m: Message) -> Moved
-    ensures { λ r. ⌜ r ≡ movedBy lane refusal m ⌝ }
+fn moved_by(lane: Lane, refusal: u8, event: Event) -> Moved
+    ensures { λ r. ⌜ r ≡ movedFor lane refusal event ⌝ }
 {
     if refusal == 0 {
-        return lane.received(event_of(m));
+        return lane.received(event);
     }
     if refusal == 1 {
         return Moved {
@@ -56,10 +71,10 @@ fn moved_by(lane: Lane, refusal: u8, m: Message) -> Moved
     lane.ended(refusal)
 }
 
-// What is written back.
-fn answer(s: &[u8], refusal: u8, m: Message, out: &mut [u8]) -> Written
-    requires { ⌜ Sound (now s) (m .alive .id) ⌝ }
-    ensures { λ r. ⌜ Answered (now (s .entry)) m refusal (now (out .entry)) (now (out .exit)) r ⌝ }
+// What is written back; `asks` says that a reply is, to a CheckAlive with that Id.
+fn answer(s: &[u8], refusal: u8, asks: bool, id: Words, out: &mut [u8]) -> Written
+    requires { ⌜ (asks ≡ true → Sound (now s) id) ⌝ }
+    ensures { λ r. ⌜ Answers (now (s .entry)) refusal asks id (now (out .entry)) (now (out .exit)) r ⌝ }
 {
     if refusal == 1 {
         return Written {
@@ -68,12 +83,10 @@ fn answer(s: &[u8], refusal: u8, m: Message, out: &mut [u8]) -> Written
         };
     }
     if refusal != 0 {
-        return replies::notify(refusal, out);
+        return written_back::notify(refusal, out);
     }
-    if asks_reply(m) {
-        let alive = m.alive;
-        let id = alive.id;
-        return replies::reply(s, id, out);
+    if asks {
+        return written_back::reply(s, id, out);
     }
     Written {
         refusal: 0,
@@ -82,39 +95,85 @@ fn answer(s: &[u8], refusal: u8, m: Message, out: &mut [u8]) -> Written
 }
 
 // The answer with no room for what is to be written.
-fn no_room(lane: Lane) -> Received
-    ensures { λ r. ⌜ r ≡ noRoom lane ⌝ }
+fn no_room(lane: Lane) -> Receipt
+    ensures { λ r. ⌜ r ≡ noReceipt lane ⌝ }
 {
-    let message = structs::blank(Kind::UNKNOWN);
-    Received {
+    Receipt {
         refusal: 7,
         lane,
         order: Order::NONE,
         used: 0,
         written: 0,
         place: 0,
-        message: message,
+        kind: Kind::UNKNOWN,
+        id: [0u8; 36],
     }
 }
 
-// The answer once all is written.
-fn told(c: Checked, moved: Moved, written: usize) -> Received
-    ensures { λ r. ⌜ r ≡ toldOf c moved written ⌝ }
+// The answer once all is written, to a message that is refused or no message.
+fn refused(f: Found, moved: Moved, written: usize) -> Receipt
+    ensures { λ r. ⌜ r ≡ refusedBy f moved written ⌝ }
 {
     let lane = moved.lane;
-    let mut message = c.message;
-    if moved.refusal != 0 {
-        message = structs::blank(Kind::UNKNOWN);
-    }
-    Received {
+    Receipt {
         refusal: moved.refusal,
         lane: lane,
         order: moved.order,
-        used: c.end,
+        used: f.end,
         written: written,
-        place: c.place,
-        message: message,
+        place: f.place,
+        kind: Kind::UNKNOWN,
+        id: [0u8; 36],
     }
+}
+
+// To one that is accepted.
+fn told(f: Found, moved: Moved, written: usize) -> Receipt
+    ensures { λ r. ⌜ r ≡ toldBy f moved written ⌝ }
+{
+    let lane = moved.lane;
+    let id = f.id;
+    Receipt {
+        refusal: moved.refusal,
+        lane: lane,
+        order: moved.order,
+        used: f.end,
+        written: written,
+        place: f.place,
+        kind: f.kind,
+        id: id,
+    }
+}
+
+// The answer once something is written or not. Only an accepted message stays in the cells.
+fn finish(lane: Lane, f: Found, moved: Moved, w: Written, cells: &mut [u64]) -> Receipt
+    ensures { λ r. ⌜ Finishes lane f moved w (now (cells .entry)) (now (cells .exit)) r ⌝ }
+{
+    if w.refusal != 0 {
+        clear(&mut *cells);
+        return no_room(lane);
+    }
+    if moved.refusal != 0 {
+        clear(&mut *cells);
+        return refused(f, moved, w.count);
+    }
+    told(f, moved, w.count)
+}
+
+/// Receives the message that stands first in s, behind glue: checks it, moves the lane, and writes the Notification of a refusal or the
+/// reply to a CheckAlive first into the buffer. What an accepted message says stands in the cells then; else they stay zeros.
+pub fn receive_into(lane: Lane, s: &[u8], out: &mut [u8], cells: &mut [u64]) -> Receipt
+    requires { ⌜ now cells ≡ replicate NUMBERS 0 ⌝ }
+    ensures { λ r. ⌜ ReceivesInto lane (now (s .entry)) (now (out .entry)) (now (out .exit)) (now (cells .exit)) r ⌝ }
+{
+    let f = reads::check_into(s, &mut *cells);
+    let id = f.id;
+    let event = Event { kind: f.kind, id };
+    let moved = moved_by(lane, f.refusal, event);
+    let asks = asks_reply(f.kind, cells[0], cells[1]);
+    let alive = text_from(cells[3], cells[4], cells[5]);
+    let w = answer(s, moved.refusal, asks, alive, out);
+    finish(lane, f, moved, w, cells)
 }
 
 /// Receives the message that stands first in s, behind glue: checks it, moves the lane, and writes the Notification of a refusal or the
@@ -122,12 +181,18 @@ fn told(c: Checked, moved: Moved, written: usize) -> Received
 pub fn receive(lane: Lane, s: &[u8], out: &mut [u8]) -> Received
     ensures { λ r. ⌜ Receives lane (now (s .entry)) (now (out .entry)) (now (out .exit)) r ⌝ }
 {
-    let c = reads::check(s);
-    let m = c.message;
-    let moved = moved_by(lane, c.refusal, m);
-    let w = answer(s, moved.refusal, m, out);
-    if w.refusal != 0 {
-        return no_room(lane);
+    let mut cells = [0u64; 72];
+    let r = receive_into(lane, s, out, &mut cells);
+    let next = r.lane;
+    let id = r.id;
+    let message = message_of(r.kind, &cells, id);
+    Received {
+        refusal: r.refusal,
+        lane: next,
+        order: r.order,
+        used: r.used,
+        written: r.written,
+        place: r.place,
+        message: message,
     }
-    told(c, moved, w.count)
 }

@@ -1,11 +1,15 @@
 // Sending: whether a message may be sent, what it does to the lane, and its bytes.
 ghost use mathlib.Core.Path.{_≡_};
+ghost use Rattle.message.specs.Cells.{messageBy};
 ghost use Rattle.handover.specs.Sending.{kept as keptBy, mayNot, Sends};
-use crate::ids::event_of;
+use crate::ids::named_id;
+use lane::Event;
 use lane::Lane;
 use lane::Order;
 use lane::Refusal;
 use message::kinds::Message;
+use structs::id_of;
+use structs::lay;
 
 /// What sending answers: the refusal; the lane after it and the belt order; and how many bytes of the buffer are written.
 pub struct Sent {
@@ -28,25 +32,35 @@ fn kept(lane: Lane, refusal: u8) -> Sent
 }
 
 // The refusal of a message without a transition: 4, 5, 6 decide before 8.
-fn may_not(m: Message, texts: &[u8]) -> u8
-    ensures { λ r. ⌜ r ≡ mayNot m (now (texts .entry)) ⌝ }
+fn may_not(kind: u8, cells: &[u64], id: &[u8], texts: &[u8]) -> u8
+    ensures { λ r. ⌜ r ≡ mayNot (messageBy kind (now (cells .entry)) (now (id .entry))) (now (texts .entry)) ⌝ }
 {
-    let r = writes::refusal_of(m, texts);
+    let r = writes::refusal_of_cells(kind, cells, id, texts);
     if r != 0 {
         return r;
     }
     Refusal::MAY_NOT_BE_SENT
 }
 
-/// Sends a message, whose texts are parts of `texts`: it stands first in the buffer, and the lane is moved. Every refusal keeps both.
-pub fn send(lane: Lane, m: Message, texts: &[u8], out: &mut [u8]) -> Sent
-    ensures { λ r. ⌜ Sends lane m (now (texts .entry)) (now (out .entry)) (now (out .exit)) r ⌝ }
+/// Sends the message of a kind that these cells and this BoardId are, whose texts are parts of `texts`: it stands first in the buffer, and the lane
+/// is moved. Every refusal keeps both.
+pub fn send_from(
+    lane: Lane,
+    kind: u8,
+    cells: &[u64],
+    id: [u8; 36],
+    texts: &[u8],
+    out: &mut [u8],
+) -> Sent
+    ensures { λ r. ⌜ Sends lane (messageBy kind (now (cells .entry)) id) (now (texts .entry)) (now (out .entry)) (now (out .exit)) r ⌝ }
 {
-    let moved = lane.sent(event_of(m));
+    let named = named_id(kind, cells, id);
+    let event = Event { kind, id: named };
+    let moved = lane.sent(event);
     if moved.refusal != 0 {
-        return kept(lane, may_not(m, texts));
+        return kept(lane, may_not(kind, cells, &id, texts));
     }
-    let w = writes::write(m, texts, out);
+    let w = writes::write_cells(kind, cells, &id, texts, out);
     if w.refusal != 0 {
         return kept(lane, w.refusal);
     }
@@ -57,4 +71,14 @@ pub fn send(lane: Lane, m: Message, texts: &[u8], out: &mut [u8]) -> Sent
         order: moved.order,
         written: w.count,
     }
+}
+
+/// Sends a message, whose texts are parts of `texts`: it stands first in the buffer, and the lane is moved. Every refusal keeps both.
+pub fn send(lane: Lane, m: Message, texts: &[u8], out: &mut [u8]) -> Sent
+    ensures { λ r. ⌜ Sends lane m (now (texts .entry)) (now (out .entry)) (now (out .exit)) r ⌝ }
+{
+    let mut cells = [0u64; 72];
+    lay(m, &mut cells);
+    let id = id_of(m);
+    send_from(lane, m.kind, &cells, id, texts, out)
 }

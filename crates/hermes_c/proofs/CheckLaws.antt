@@ -1,17 +1,17 @@
 -- What `tryphomel_check` answers, and that no second answer satisfies its promise.
 use mathlib.Core.Path.{_≡_, refl, sym, ap, _∙_}
-use mathlib.Core.List.{List}
+use mathlib.Core.List.{List, _∷_}
 use Prim.Native.Nat.{ℕ}
 use Rattle.grammar.specs.Bytes.{Bytes}
-use Rattle.message.specs.Checked.{Checks}
+use Rattle.reads.specs.Whole.{handedBy, ChecksInto}
+use Rattle.reads.specs.declared.checking.Found.{Found}
 use Rattle.reads.proofs.Theorems.{check-only}
 use Rattle.message.specs.declared.checking.Checked.{Checked}
-use Rattle.message.specs.Cells.{numbersOf}
-use Rattle.structs.specs.Laid.{idOf}
+use Rattle.message.specs.Cells.{numbersOf, idOf}
 use Rattle.hermes_c.specs.Checking.{Finds}
 
-pub finds : {s : Bytes} {c : Checked} {n : List ℕ} {g : Bytes} → Checks s c → n ≡ numbersOf (c .message) → g ≡ idOf (c .message) → Finds s (c .refusal) (c .start) (c .end) (c .place) n g
-finds {c = c} p e f = record { found = c; checks = p; refuses = refl; starts = refl; ends = refl; places = refl; says = e; names = f }
+pub finds : {s : Bytes} {cells n : List ℕ} {f : Found} → ChecksInto s cells f → n ≡ f .kind ∷ cells → Finds s (f .refusal) (f .start) (f .end) (f .place) n (f .id)
+finds {cells = cells} {f = f} p e = record { found = handedBy f cells; checks = p .checks; refuses = refl; starts = refl; ends = refl; places = refl; says = e ∙ p .told .numbers; names = p .told .named }
 
 pub finds-only : {s : Bytes} {r a e p r′ a′ e′ p′ : ℕ} {n n′ : List ℕ} {i i′ : Bytes} → Finds s r a e p n i → Finds s r′ a′ e′ p′ n′ i′
     → (r ≡ r′) × (a ≡ a′) × (e ≡ e′) × (p ≡ p′) × (n ≡ n′) × (i ≡ i′)

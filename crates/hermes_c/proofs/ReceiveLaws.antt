@@ -1,6 +1,6 @@
 -- What `tryphomel_receive` answers, and that no second answer satisfies its promise.
 use mathlib.Core.Path.{_≡_, refl, sym, ap, subst, _∙_}
-use mathlib.Core.List.{List}
+use mathlib.Core.List.{List, _∷_}
 use mathlib.Core.Bool.{Bool, true, false, cond}
 use Prim.Native.Nat.{ℕ}
 use lib.ListN.{length}
@@ -16,12 +16,12 @@ use Rattle.lane.specs.declared.chart.Step.the-variants.{To, NoTransition}
 use Rattle.message.specs.declared.checking.Checked.{Checked}
 use Rattle.message.specs.declared.kinds.Message.{Message}
 use Rattle.handover.specs.Ids.{eventOf}
-use Rattle.handover.specs.Receiving.{movedBy, told, answerOf, Receives}
+use Rattle.handover.specs.Receiving.{movedBy, told, answerOf, Receives, receivedBy, ReceivesInto}
+use Rattle.handover.specs.declared.receiving.Receipt.{Receipt}
 use Rattle.handover.specs.declared.receiving.Received.{Received}
 use Rattle.handover.proofs.Theorems.{receive-only}
 use Rattle.hermes_c.specs.Lanes.{Lent}
-use Rattle.message.specs.Cells.{numbersOf}
-use Rattle.structs.specs.Laid.{idOf}
+use Rattle.message.specs.Cells.{numbersOf, idOf}
 use Rattle.hermes_c.specs.Receiving.{ReceivesAs}
 use Rattle.hermes_c.proofs.LaneLaws.{in-parts, lent-only}
 
@@ -50,15 +50,15 @@ answer-side l c b room = either (λ (r : Received). r .lane .side ≡ l .side) (
 receive-side : {l : Lane} {s old new : Bytes} {r : Received} → Receives l s old new r → r .lane .side ≡ l .side
 receive-side {l} {s} {old} p = ap (λ (r : Received). r .lane .side) (p .answer) ∙ answer-side l (p .checked) (p .due) (length old)
 
-pub receives-as : {l : Lane} {s old new : Bytes} {r : Received} {n : List ℕ} {g : Bytes} → Receives l s old new r → n ≡ numbersOf (r .message) → g ≡ idOf (r .message)
-    → ReceivesAs l s old new (r .refusal) (r .lane .state) (r .lane .offered) (r .lane .running) n g (r .order) (r .used) (r .written) (r .place)
-receives-as {r = r} p e f = record {
-  received = r;
-  receives = p;
+pub receives-as : {l : Lane} {s old new : Bytes} {cells n : List ℕ} {r : Receipt} → ReceivesInto l s old new cells r → n ≡ r .kind ∷ cells
+    → ReceivesAs l s old new (r .refusal) (r .lane .state) (r .lane .offered) (r .lane .running) n (r .id) (r .order) (r .used) (r .written) (r .place)
+receives-as {cells = cells} {r = r} p e = record {
+  received = receivedBy r cells;
+  receives = p .receives;
   refuses = refl;
-  after = in-parts (receive-side p);
-  says = e;
-  names = f;
+  after = in-parts (receive-side (p .receives));
+  says = e ∙ p .told-so .numbers;
+  names = p .told-so .named;
   orders = refl;
   uses = refl;
   writes = refl;

@@ -5,8 +5,7 @@ use Prim.Native.Nat.{ℕ}
 use Rattle.grammar.specs.Bytes.{Bytes}
 use Rattle.message.specs.Checked.{Checks}
 use Rattle.message.specs.declared.checking.Checked.{Checked}
-use Rattle.message.specs.Cells.{numbersOf}
-use Rattle.structs.specs.Laid.{idOf}
+use Rattle.message.specs.Cells.{numbersOf, idOf}
 
 pub record Finds (s : Bytes) (refusal start end place : ℕ) (numbers : List ℕ) (id : Bytes) : Type 0 where
   pub found : Checked

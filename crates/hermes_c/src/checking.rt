@@ -1,8 +1,6 @@
 // What a message says.
 ghost use Rattle.hermes_c.specs.Checking.{Finds};
 use structs::NUMBERS;
-use structs::id_of;
-use structs::numbers_of;
 
 /// What the message behind the glue says: the refusal; the message's numbers and its BoardId; where it starts and ends; and the place that is
 /// malformed. What there is none of is 0.
@@ -17,13 +15,14 @@ pub extern "C" fn tryphomel_check(
 ) -> u8
     ensures { λ r. ⌜ Finds (now (bytes .entry)) r (now (start .exit)) (now (end .exit)) (now (place .exit)) (now (numbers .exit)) (now (id .exit)) ⌝ }
 {
-    let c = reads::check(bytes);
-    let m = c.message;
-    let b = id_of(m);
-    *numbers = numbers_of(m);
+    let mut all = [0u64; NUMBERS];
+    let f = reads::check_into(bytes, &mut all[1..]);
+    all[0] = f.kind as u64;
+    let b = f.id;
+    *numbers = all;
     *id = b;
-    *start = c.start as u64;
-    *end = c.end as u64;
-    *place = c.place as u64;
-    c.refusal
+    *start = f.start as u64;
+    *end = f.end as u64;
+    *place = f.place as u64;
+    f.refusal
 }

@@ -3,8 +3,6 @@ ghost use Rattle.hermes_c.specs.Lanes.{laneOf};
 ghost use Rattle.hermes_c.specs.Receiving.{ReceivesAs};
 use lane::Lane;
 use structs::NUMBERS;
-use structs::id_of;
-use structs::numbers_of;
 
 /// Receives the message that stands first in the bytes, behind glue: checks it, moves the lane, and writes the Notification of a refusal or the
 /// reply to a CheckAlive first into the buffer. Answers the refusal; the belt order; how many of the bytes are used, and how many of the buffer
@@ -34,16 +32,17 @@ pub extern "C" fn tryphomel_receive(
         offered: o,
         running: r,
     };
-    let a = handover::receive(lane, bytes, out);
-    let m = a.message;
+    let mut all = [0u64; NUMBERS];
+    let a = handover::receive_into(lane, bytes, out, &mut all[1..]);
+    all[0] = a.kind as u64;
     let next = a.lane;
-    let b = id_of(m);
+    let b = a.id;
     let o = next.offered;
     let r = next.running;
     *state = next.state;
     *offered = o;
     *running = r;
-    *numbers = numbers_of(m);
+    *numbers = all;
     *id = b;
     *order = a.order;
     *used = a.used as u64;

@@ -4,7 +4,7 @@ ghost use Rattle.message.specs.Cells.{messageOf};
 ghost use Rattle.hermes_c.specs.Sending.{SendsAs};
 use lane::Lane;
 use structs::NUMBERS;
-use structs::message_in;
+use structs::kind_in;
 
 /// Sends the message of these numbers and this BoardId, whose texts are parts of `texts`: it stands first in the buffer, and the lane is moved.
 /// Every refusal keeps both. Answers the refusal; the belt order; and how many bytes of the buffer are written.
@@ -31,8 +31,10 @@ pub extern "C" fn tryphomel_send(
         offered: o,
         running: r,
     };
-    let m = message_in(numbers, id);
-    let a = handover::send(lane, m, texts, out);
+    let all = *numbers;
+    let kind = kind_in(all);
+    let b = *id;
+    let a = handover::send_from(lane, kind, &all[1..], b, texts, out);
     let next = a.lane;
     let o = next.offered;
     let r = next.running;

@@ -11,8 +11,8 @@ use Rattle.grammar.specs.Tree.{Tree}
 use Rattle.grammar.specs.Message.{Layout, Laid, readLayout}
 use Rattle.grammar.specs.Answer.{Ends, Answers, endsAt, moreFrom, malformedAt, tooLongFrom}
 use Rattle.model.specs.Theorems.{one-reading}
-use Rattle.table.specs.Table.{rowsOf}
-use Rattle.table.specs.Says.{childOf, saidOf}
+use Rattle.table.specs.Table.{table}
+use Rattle.table.specs.Says.{rowsFor, childOf, saidOf}
 use Rattle.reads.specs.Whole.{CellsChecked, ends, more, malformed, too-long}
 use Rattle.reads.specs.declared.whole.Outcome.{Outcome}
 use Rattle.lines.specs.Lines.{MessageLine, FirstLine, unfinished as unfinished-line, malformed as malformed-line, too-long as too-long-line}
@@ -47,9 +47,9 @@ never k a b h (refuses i j) = omega arith
 
 by-number : {s : Bytes} {before after : List ℕ} {c : Outcome} → CellsChecked s before after c → ByNumber s c
 by-number {s} {c = c} (ends start end p l w e _) = subst (λ (c : Outcome). ByNumber s c) (sym e) (record {
-  one = λ h. absurd (never 1 (omega arith) (omega arith) h (refusal-is (rowsOf (saidOf (readLayout l) .kind)) (childOf (readLayout l))));
-  two = λ h. absurd (never 2 (omega arith) (omega arith) h (refusal-is (rowsOf (saidOf (readLayout l) .kind)) (childOf (readLayout l))));
-  three = λ h. absurd (never 3 (omega arith) (omega arith) h (refusal-is (rowsOf (saidOf (readLayout l) .kind)) (childOf (readLayout l))));
+  one = λ h. absurd (never 1 (omega arith) (omega arith) h (refusal-is (rowsFor table (saidOf (readLayout l) .kind) (childOf (readLayout l))) (childOf (readLayout l))));
+  two = λ h. absurd (never 2 (omega arith) (omega arith) h (refusal-is (rowsFor table (saidOf (readLayout l) .kind) (childOf (readLayout l))) (childOf (readLayout l))));
+  three = λ h. absurd (never 3 (omega arith) (omega arith) h (refusal-is (rowsFor table (saidOf (readLayout l) .kind) (childOf (readLayout l))) (childOf (readLayout l))));
   others = λ _ _ _. record {
     message = p;
     kind = ap (λ (t : Tree). saidOf t .kind) (sym (reading-of p l w));

@@ -12,8 +12,8 @@ use Rattle.number.specs.Guid.{guidOf}
 use Rattle.number.specs.Version.{versionOf}
 use Rattle.grammar.specs.Bytes.{Bytes, within, nonEmpty, same}
 use Rattle.grammar.specs.Tree.{Pair, Tree, tree, Forest, no-trees, tree-then}
-use Rattle.table.specs.Table.{Row, Form, words, someWords, whole, guid, version, positive, features}
-use Rattle.table.specs.Says.{Value, aText, anInt, anId, present, refused, TOO_LONG, when, ranged, measured, judged, without, given, nameOf, childrenOf, notes, featured, tried, refusalIn, first, refusalOf}
+use Rattle.table.specs.Table.{Row, Form, words, someWords, whole, guid, version, positive, features, Need, required, optional, requiredWith, ignored}
+use Rattle.table.specs.Says.{Value, aText, anInt, anId, present, refused, TOO_LONG, when, ranged, measured, judged, without, given, nameOf, childrenOf, notes, featured, sought, byNeed, tried, refusalIn, first, refusalOf}
 
 pub data Refusal (n : ℕ) : Type 0 where
   none-of-it : n ≡ 0 → Refusal n
@@ -69,20 +69,29 @@ featured-is n o (tree-then t f) = go (same n (nameOf t)) (featured-is n o f)
     go true h = none-of-it refl
     go false h = h
 
-tried-is : (n : Bytes) (x : Form) (o : Bool) (t : Tree) → Refusal (refusalIn (tried (record { name = n; form = x; optional = o }) t))
+sought-is : (x : Form) (n : Bytes) (t : Tree) (o : Bool) → Refusal (refusalIn (sought x n t o))
+sought-is (words k) n (tree m a f) o = given-is (words k) o n a
+sought-is (someWords k) n (tree m a f) o = given-is (someWords k) o n a
+sought-is (whole lo hi) n (tree m a f) o = given-is (whole lo hi) o n a
+sought-is guid n (tree m a f) o = given-is guid o n a
+sought-is version n (tree m a f) o = given-is version o n a
+sought-is positive n (tree m a f) o = given-is positive o n a
+sought-is features n (tree m a f) o = featured-is n o f
+
+tried-is : (r : Row) (t : Tree) → Refusal (refusalIn (tried r t))
 unfolding tried
-tried-is n (words k) o (tree m a f) = given-is (words k) o n a
-tried-is n (someWords k) o (tree m a f) = given-is (someWords k) o n a
-tried-is n (whole lo hi) o (tree m a f) = given-is (whole lo hi) o n a
-tried-is n guid o (tree m a f) = given-is guid o n a
-tried-is n version o (tree m a f) = given-is version o n a
-tried-is n positive o (tree m a f) = given-is positive o n a
-tried-is n features o (tree m a f) = featured-is n o f
+tried-is r t = go (r .need)
+  where
+    go : (d : Need) → Refusal (refusalIn (byNeed d (sought (r .form) (r .name) t)))
+    go required = sought-is (r .form) (r .name) t false
+    go optional = sought-is (r .form) (r .name) t true
+    go (requiredWith n) = none-of-it refl
+    go ignored = none-of-it refl
 
 pub refusal-is : (l : List Row) (t : Tree) → Refusal (refusalOf l t)
 unfolding refusalOf
 refusal-is [] t = none-of-it refl
-refusal-is (r ∷ l) t = go (refusalIn (tried r t)) (tried-is (r .name) (r .form) (r .optional) t) (refusal-is l t)
+refusal-is (r ∷ l) t = go (refusalIn (tried r t)) (tried-is r t) (refusal-is l t)
   where
     go : (n : ℕ) → Refusal n → Refusal (refusalOf l t) → Refusal (first n (refusalOf l t))
     go zero h k = k

@@ -12,8 +12,8 @@ use Rattle.grammar.specs.Limits.{MESSAGE}
 use Rattle.grammar.specs.Answer.{Behind, moreFrom, Answers}
 use Rattle.model.specs.Answers.{behind-one}
 use Rattle.model.specs.Theorems.{answers-only}
-use Rattle.table.specs.Table.{rowsOf}
-use Rattle.table.specs.Says.{childOf, saidOf}
+use Rattle.table.specs.Table.{table}
+use Rattle.table.specs.Says.{rowsFor, childOf, saidOf}
 use Rattle.lines.specs.Lines.{MessageLine, LastLine, FirstLine, EndLine, unfinished, malformed, too-long, Lists, list-end, list-line, Listing}
 use Rattle.lines.specs.Step.{Shows, ListStep}
 use Rattle.lines.specs.Refusals.{Refusal, refusal-is}
@@ -63,7 +63,7 @@ end-within {s} (too-long start p e) = let q = ap (λ (z : LastLine). z .place) e
 
 -- "refusal (0, 4, 5 or 6)"
 pub line-refusal : {s : Bytes} {m : MessageLine} → FirstLine s m → Refusal (m .refusal)
-line-refusal f = let t = f .message .reading in subst Refusal (sym (f .refusal)) (refusal-is (rowsOf (saidOf t .kind)) (childOf t))
+line-refusal f = let t = f .message .reading in subst Refusal (sym (f .refusal)) (refusal-is (rowsFor table (saidOf t .kind) (childOf t)) (childOf t))
 
 -- every input has a listing, and no two
 pub lists-one : (s : Bytes) → (l : List MessageLine) × (z : LastLine) × Listing s l z × ((k : List MessageLine) (y : LastLine) → Listing s k y → (l ≡ k) × (z ≡ y))

@@ -1,6 +1,7 @@
 pub mod WidthLaws
 pub mod ValueLaws
 pub mod RowLaws
+pub mod NeedLaws
 pub mod ElementLaws
 pub mod BuildLaws
 pub mod MessageLaws

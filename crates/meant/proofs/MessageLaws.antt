@@ -13,43 +13,47 @@ use Rattle.grammar.specs.Element.{Element, spellElement, GoodElement, readEleme
 use Rattle.grammar.specs.Message.{Root, plain, good-plain, hermes, Message as IsMessage}
 use Rattle.model.specs.Tests.{and-left, and-right}
 use Rattle.number.proofs.Tests.{cases}
-use Rattle.table.specs.Table.{Row, table, kindOf, isKind, rowsOf}
-use Rattle.table.specs.Theorems.{onKinds, each-kind}
-use Rattle.table.specs.Says.{Result, valuesOf, saidOf, nameOf as named, refusalOf as refusedBy}
+use Rattle.table.specs.Table.{Row, Entry, table, kindIn, isKindIn, isKind, rowsIn, rowsOf, nameIn}
+use Rattle.table.specs.Theorems.{onKinds, kinds-in}
+use Rattle.table.specs.Says.{Result, valuesOf, hasAttribute, rowsFor, Said, saidIn, nameOf as named, refusalOf as refusedBy}
 use Rattle.message.specs.Fields.{Field}
-use Rattle.meant.specs.Meant.{meantOf, firstIn}
-use Rattle.meant.specs.Written.{elementOf, nameOf}
+use Rattle.meant.specs.Meant.{meantOf, firstIn, givenIn, rowsWith, meantIn, refusedIn, refusalBy}
+use Rattle.meant.specs.Written.{elementOf, elementBy, rooted, nameOf, writtenIn, writtenBy}
 use Rattle.meant.proofs.RowLaws.{isName, goodRows, named as is-name}
+use Rattle.meant.proofs.NeedLaws.{leaning, good-settled, settled-alike, given-written, rows-table, written-table}
 use Rattle.meant.proofs.ElementLaws.{noFiller, no-attributes}
 use Rattle.meant.proofs.BuildLaws.{ReadsBack, element-back}
 
 -- a kind has a name of its own, and rows that an element may have
-abbrev goodKind : ℕ → Bool
-goodKind k = isName (nameOf k) && (eqb (kindOf (nameOf k)) k && goodRows (rowsOf k))
+abbrev goodKind : List Entry → ℕ → Bool
+goodKind by k = isName (nameIn by k) && (eqb (kindIn by (nameIn by k)) k && (goodRows (rowsIn by k) && leaning (rowsIn by k) (rowsIn by k)))
 
-good-kinds : onKinds goodKind table ≡ true
-unfolding nameOf kindOf rowsOf table nameStart nameByte letter digit within
-good-kinds = refl
+-- a table that messages can be written by, as a test
+abbrev pub soundTable : List Entry → Bool
+soundTable by = onKinds (goodKind by) by
 
-pub record Kind (k : ℕ) : Type 0 where
-  pub name : Name (nameOf k)
-  pub known : kindOf (nameOf k) ≡ k
-  pub rows : goodRows (rowsOf k) ≡ true
+pub sound-table : soundTable table ≡ true
+unfolding table nameStart nameByte letter digit within
+sound-table = refl
 
-pub kind-good : (k : ℕ) → isKind k ≡ true → Kind k
-kind-good k i =
-    let h = each-kind goodKind k good-kinds i in
-    let j = and-right (isName (nameOf k)) (eqb (kindOf (nameOf k)) k && goodRows (rowsOf k)) h in
-    record {
-      name = is-name (nameOf k) (and-left (isName (nameOf k)) (eqb (kindOf (nameOf k)) k && goodRows (rowsOf k)) h);
-      known = eqb-true (kindOf (nameOf k)) k (and-left (eqb (kindOf (nameOf k)) k) (goodRows (rowsOf k)) j);
-      rows = and-right (eqb (kindOf (nameOf k)) k) (goodRows (rowsOf k)) j;
-    }
+pub record Kind (by : List Entry) (k : ℕ) : Type 0 where
+  pub name : Name (nameIn by k)
+  pub known : kindIn by (nameIn by k) ≡ k
+  pub rows : goodRows (rowsIn by k) ≡ true
+  pub leans : leaning (rowsIn by k) (rowsIn by k) ≡ true
+
+pub kind-good : (by : List Entry) → soundTable by ≡ true → (k : ℕ) → isKindIn by k ≡ true → Kind by k
+kind-good by s k i =
+    let n = isName (nameIn by k) in
+    let e = eqb (kindIn by (nameIn by k)) k in
+    let r = goodRows (rowsIn by k) in
+    let l = leaning (rowsIn by k) (rowsIn by k) in
+    let h = kinds-in (goodKind by) by k s i in
+    let j = and-right n (e && (r && l)) h in
+    let z = and-right e (r && l) j in
+    record { name = is-name (nameIn by k) (and-left n (e && (r && l)) h); known = eqb-true (kindIn by (nameIn by k)) k (and-left e (r && l) j); rows = and-left r l z; leans = and-right r l z }
 
 -- the root around an element
-abbrev pub rooted : Bytes → Bytes
-rooted w = text "<Hermes>" ++ (w ++ text "</Hermes>")
-
 abbrev rootOf : Element → Root
 rootOf e = record { attributes = []; trail = []; before = noFiller; inner = e; after = noFiller; shut = [] }
 
@@ -69,24 +73,58 @@ unfolding refusedBy valuesOf
 refusal-values [] t = refl
 refusal-values (r ∷ l) t = rw (refusal-values l t)
 
--- the bytes w are a message, which says this kind and these values
-pub record Tells (w : Bytes) (k : ℕ) (meant : List Result) : Type 0 where
+-- the bytes w are a message, which says this kind and these values, by a given table and by the one of document 01
+pub record TellsIn (by : List Entry) (w : Bytes) (k : ℕ) (meant : List Result) : Type 0 where
   pub reading : Tree
   pub is-message : IsMessage w reading
-  pub kind : saidOf reading .kind ≡ k
-  pub refusal : saidOf reading .refusal ≡ 0
-  pub values : saidOf reading .values ≡ meant
+  pub kind : saidIn by reading .kind ≡ k
+  pub refusal : saidIn by reading .refusal ≡ 0
+  pub values : saidIn by reading .values ≡ meant
 
-pub message-back : (k : ℕ) (fields : List Field) (texts : Bytes) → isKind k ≡ true → firstIn (meantOf (rowsOf k) fields texts) ≡ 0
-    → Tells (rooted (elementOf (nameOf k) (rowsOf k) fields texts)) k (meantOf (rowsOf k) fields texts)
-message-back k fields texts i h =
-    let g = kind-good k i in
-    let x : ReadsBack 2 (nameOf k) (rowsOf k) fields texts = element-back (nameOf k) (rowsOf k) fields texts (g .name) (g .rows) h in
-    let e : kindOf (named (readElement (x .element))) ≡ k = ap kindOf (x .name) ∙ g .known in
+abbrev pub Tells : Bytes → ℕ → List Result → Type 0
+Tells w k meant = TellsIn table w k meant
+
+pub message-back-in : (by : List Entry) → soundTable by ≡ true → (k : ℕ) (fields : List Field) (texts : Bytes) → isKindIn by k ≡ true → refusedIn by k fields texts ≡ 0
+    → TellsIn by (writtenIn by k fields texts) k (meantIn by k fields texts)
+message-back-in by s k fields texts i h =
     record {
-      reading = tree hermes [] (tree-then (readElement (x .element)) no-trees);
-      is-message = rooted-message (elementOf (nameOf k) (rowsOf k) fields texts) (x .element) (x .good) (x .spelt);
+      reading = tree hermes [] (tree-then element no-trees);
+      is-message = rooted-message (elementBy (nameIn by k) rows fields texts) (x .element) (x .good) (x .spelt);
       kind = e;
-      refusal = ap (λ (j : ℕ). refusedBy (rowsOf j) (readElement (x .element))) e ∙ refusal-values (rowsOf k) (readElement (x .element)) ∙ ap firstIn (x .values) ∙ h;
-      values = ap (λ (j : ℕ). valuesOf (rowsOf j) (readElement (x .element))) e ∙ x .values;
+      refusal = ap (λ (j : ℕ). refusedBy (rowsFor by j element) element) e ∙ ap (λ (l : List Row). refusedBy l element) same-rows ∙ refusal-values rows element ∙ ap firstIn (x .values) ∙ h;
+      values = ap (λ (j : ℕ). valuesOf (rowsFor by j element) element) e ∙ ap (λ (l : List Row). valuesOf l element) same-rows ∙ x .values;
     }
+  where
+    g : Kind by k
+    g = kind-good by s k i
+
+    rows : List Row
+    rows = rowsWith (rowsIn by k) fields
+
+    x : ReadsBack 2 (nameIn by k) rows fields texts
+    x = element-back (nameIn by k) rows fields texts (g .name) (good-settled (givenIn (rowsIn by k) fields) (rowsIn by k) ∙ g .rows) h
+
+    element : Tree
+    element = readElement (x .element)
+
+    e : kindIn by (named element) ≡ k
+    e = ap (kindIn by) (x .name) ∙ g .known
+
+    -- the element that is written settles the rows as its fields do
+    same-rows : rowsFor by k element ≡ rows
+    same-rows = settled-alike (rowsIn by k) (hasAttribute element) (givenIn (rowsIn by k) fields) (λ n l. x .has n ∙ given-written (givenIn (rowsIn by k) fields) (rowsIn by k) fields n l) (rowsIn by k) (g .leans)
+
+-- the table of document 01 has plain rows
+pub meant-table : (k : ℕ) (fields : List Field) (texts : Bytes) → meantIn table k fields texts ≡ meantOf (rowsOf k) fields texts
+meant-table k fields texts = ap (λ (l : List Row). meantOf l fields texts) (rows-table k fields)
+
+pub refusal-table : (k : ℕ) (fields : List Field) (texts : Bytes) → refusalBy k fields texts ≡ firstIn (meantOf (rowsOf k) fields texts)
+refusal-table k fields texts = ap firstIn (meant-table k fields texts)
+
+pub written-by-table : (k : ℕ) (fields : List Field) (texts : Bytes) → writtenBy k fields texts ≡ rooted (elementOf (nameOf k) (rowsOf k) fields texts)
+written-by-table k fields texts =
+    ap (λ (l : List Row). rooted (elementBy (nameOf k) l fields texts)) (rows-table k fields)
+    ∙ ap (λ (l : List Field). rooted (elementOf (nameOf k) (rowsOf k) l texts)) (written-table k fields)
+
+pub message-back : (k : ℕ) (fields : List Field) (texts : Bytes) → isKind k ≡ true → refusalBy k fields texts ≡ 0 → Tells (writtenBy k fields texts) k (meantOf (rowsOf k) fields texts)
+message-back k fields texts i h = subst (λ (l : List Result). Tells (writtenBy k fields texts) k l) (meant-table k fields texts) (message-back-in table sound-table k fields texts i h)

@@ -1,5 +1,5 @@
 -- The Notifications that are sent before a connection ends: what is written of them, and what it means.
-use mathlib.Core.Path.{_≡_, refl, ap}
+use mathlib.Core.Path.{_≡_, refl, ap, _∙_}
 use mathlib.Core.List.{List, [], _∷_, _++_}
 use mathlib.Core.Bool.{true}
 use Prim.Native.Nat.{ℕ, _+_}
@@ -12,17 +12,17 @@ use Rattle.grammar.specs.Bytes.{Bytes, text, within, every}
 use Rattle.grammar.specs.Character.{isChar, utf8}
 use Rattle.number.proofs.Tests.{cases}
 use Rattle.printing.specs.Digits.{digitsOf, printInt}
-use Rattle.writing.specs.Written.{escapeByte, escape}
-use Rattle.writing.specs.Characters.{spell}
-use Rattle.writing.specs.Decided.{isText}
-use Rattle.writing.proofs.Theorems.{text-decided}
-use Rattle.table.specs.Table.{table, isKind, rowsOf}
+use Rattle.spelling.specs.Written.{escapeByte, escape}
+use Rattle.spelling.specs.Characters.{spell}
+use Rattle.spelling.specs.Decided.{isText}
+use Rattle.spelling.proofs.Theorems.{text-decided}
+use Rattle.table.specs.Table.{table, rowsOf}
 use Rattle.table.specs.Says.{Result, present, aText, anInt}
 use Rattle.message.specs.Fields.{messageFrom, fieldsOf}
-use Rattle.meant.specs.Meant.{meantBy, meantOf, firstIn}
-use Rattle.meant.specs.Written.{attributeOf, attributesOf, childOf, childrenOf, nameOf, writtenOf}
+use Rattle.meant.specs.Meant.{meantBy, meantOf, firstIn, refusalBy}
+use Rattle.meant.specs.Written.{attributeOf, attributesOf, childOf, childrenOf, writtenOf}
 use Rattle.meant.specs.Notices.{description, notice, noticeMessage}
-use Rattle.meant.proofs.MessageLaws.{Tells, message-back}
+use Rattle.meant.proofs.MessageLaws.{Tells, refusal-table, message-back}
 
 -- a text that is short and written as it is
 record Described (d : Bytes) : Type 0 where
@@ -54,7 +54,7 @@ ends [] = refl
 ends (b ∷ d) = ap (λ (y : Bytes). b ∷ y) (ends d)
 
 pub notice-written : (n : ℕ) → notice n ≡ writtenOf (noticeMessage n) (description n)
-unfolding notice noticeMessage messageFrom fieldsOf nameOf rowsOf table attributesOf attributeOf childrenOf childOf printInt digitsOf escape escapeByte
+unfolding notice noticeMessage messageFrom fieldsOf table attributesOf attributeOf childrenOf childOf printInt digitsOf escape escapeByte
 notice-written n = rw (whole-text (description n), described n .same) (ap (λ (y : Bytes). text "<Hermes><Notification NotificationCode=\"1\" Severity=\"1\" Description=\"" ++ y) (ends (description n)))
 
 -- what it means
@@ -62,18 +62,18 @@ abbrev pub noticeValues : ℕ → List Result
 noticeValues n = present (anInt 1) ∷ present (anInt 1) ∷ present (aText (description n)) ∷ []
 
 notice-meant : (n : ℕ) → meantOf (rowsOf 2) (fieldsOf (noticeMessage n)) (description n) ≡ noticeValues n
-unfolding noticeMessage messageFrom fieldsOf rowsOf table meantOf meantBy within
+unfolding noticeMessage messageFrom fieldsOf table meantOf meantBy within
 notice-meant n =
     let d = description n in
     let g = described n in
     let i = le-leb (0 + length d) (length d) (omega arith) in
     rw (whole-text d, g .short, g .is-text, i)
 
-pub notice-sendable : (n : ℕ) → firstIn (meantOf (rowsOf 2) (fieldsOf (noticeMessage n)) (description n)) ≡ 0
-notice-sendable n = ap firstIn (notice-meant n)
+pub notice-sendable : (n : ℕ) → refusalBy 2 (fieldsOf (noticeMessage n)) (description n) ≡ 0
+notice-sendable n = refusal-table 2 (fieldsOf (noticeMessage n)) (description n) ∙ ap firstIn (notice-meant n)
 
 pub notice-back : (n : ℕ) → Tells (notice n) 2 (noticeValues n)
-unfolding noticeMessage messageFrom isKind table
+unfolding noticeMessage messageFrom table
 notice-back n =
     let e = notice-meant n in
     let t : Tells (writtenOf (noticeMessage n) (description n)) 2 (meantOf (rowsOf 2) (fieldsOf (noticeMessage n)) (description n)) = message-back 2 (fieldsOf (noticeMessage n)) (description n) refl (notice-sendable n) in

@@ -1,5 +1,5 @@
 -- Rows that a message may have, as a test; and a row tried on an element with one attribute or one child more.
-use mathlib.Core.Path.{_≡_, refl, _∙_}
+use mathlib.Core.Path.{_≡_, refl, sym, ap, ap₂, _∙_}
 use mathlib.Core.List.{List, [], _∷_}
 use mathlib.Core.Bool.{Bool, true, false, _&&_, not, cond}
 use lib.ListN.{length}
@@ -11,7 +11,8 @@ use Rattle.grammar.specs.Name.{shaped, Name}
 use Rattle.grammar.specs.Tree.{Pair, Tree, tree, Forest, tree-then}
 use Rattle.model.specs.Tests.{and-left, and-right, same-test, same-true}
 use Rattle.table.specs.Table.{Row, Form, words, someWords, whole, guid, version, positive, features}
-use Rattle.table.specs.Says.{given, featured, nameOf, tried, valuesOf}
+use Rattle.table.specs.Says.{Result, given, featured, nameOf, sought, byNeed, tried, valuesOf}
+use Rattle.table.specs.Theorems.{by-same}
 use Rattle.meant.proofs.ValueLaws.{isChild}
 
 -- a name, as a test
@@ -74,18 +75,21 @@ pub same-swap : (n m : Bytes) → same n m ≡ same m n
 same-swap n m = same-test (same n m) (same m n) (λ h. same-itself m n (same-true n m h)) (λ h. same-itself n m (same-true m n h))
 
 -- what is tried of a row: a child, or an attribute
-pub tried-is : (r : Row) (n : Bytes) (a : List Pair) (f : Forest) → tried r (tree n a f) ≡ cond (isChild (r .form)) (featured (r .name) (r .optional) f) (given (r .form) (r .optional) (r .name) a)
+abbrev pub soughtIn : Row → List Pair → Forest → Bool → Result
+soughtIn r a f opt = cond (isChild (r .form)) (featured (r .name) opt f) (given (r .form) opt (r .name) a)
+
+sought-is : (t : Form) (m n : Bytes) (a : List Pair) (f : Forest) (opt : Bool) → sought t m (tree n a f) opt ≡ cond (isChild t) (featured m opt f) (given t opt m a)
+sought-is (words k) m n a f opt = refl
+sought-is (someWords k) m n a f opt = refl
+sought-is (whole lo hi) m n a f opt = refl
+sought-is guid m n a f opt = refl
+sought-is version m n a f opt = refl
+sought-is positive m n a f opt = refl
+sought-is features m n a f opt = refl
+
+pub tried-is : (r : Row) (n : Bytes) (a : List Pair) (f : Forest) → tried r (tree n a f) ≡ byNeed (r .need) (soughtIn r a f)
 unfolding tried
-tried-is r n a f = go (r .form)
-  where
-    go : (t : Form) → tried (record { name = r .name; form = t; optional = r .optional }) (tree n a f) ≡ cond (isChild t) (featured (r .name) (r .optional) f) (given t (r .optional) (r .name) a)
-    go (words k) = refl
-    go (someWords k) = refl
-    go (whole lo hi) = refl
-    go guid = refl
-    go version = refl
-    go positive = refl
-    go features = refl
+tried-is r n a f = by-same (r .need) (sought (r .form) (r .name) (tree n a f)) (soughtIn r a f) (sought-is (r .form) (r .name) n a f)
 
 -- what has another name changes nothing
 pub skip-attribute : (rows : List Row) (n : Bytes) (p : Pair) (a : List Pair) (f : Forest) → strange rows (p .name) ≡ true → valuesOf rows (tree n (p ∷ a) f) ≡ valuesOf rows (tree n a f)
@@ -94,7 +98,8 @@ skip-attribute [] n p a f h = refl
 skip-attribute (r ∷ l) n p a f h =
     let e : same (r .name) (p .name) ≡ false = same-swap (r .name) (p .name) ∙ not-true (same (p .name) (r .name)) (and-left (not (same (p .name) (r .name))) (strange l (p .name)) h) in
     let i = skip-attribute l n p a f (and-right (not (same (p .name) (r .name))) (strange l (p .name)) h) in
-    rw (tried-is r n (p ∷ a) f, tried-is r n a f, e, i)
+    let t = tried-is r n (p ∷ a) f ∙ by-same (r .need) (soughtIn r (p ∷ a) f) (soughtIn r a f) (λ opt. rw e) ∙ sym (tried-is r n a f) in
+    ap₂ (λ (x : Result) (z : List Result). x ∷ z) t i
 
 pub skip-child : (rows : List Row) (n : Bytes) (a : List Pair) (t : Tree) (f : Forest) → strange rows (nameOf t) ≡ true → valuesOf rows (tree n a (tree-then t f)) ≡ valuesOf rows (tree n a f)
 unfolding valuesOf
@@ -102,4 +107,5 @@ skip-child [] n a t f h = refl
 skip-child (r ∷ l) n a t f h =
     let e : same (r .name) (nameOf t) ≡ false = same-swap (r .name) (nameOf t) ∙ not-true (same (nameOf t) (r .name)) (and-left (not (same (nameOf t) (r .name))) (strange l (nameOf t)) h) in
     let i = skip-child l n a t f (and-right (not (same (nameOf t) (r .name))) (strange l (nameOf t)) h) in
-    rw (tried-is r n a (tree-then t f), tried-is r n a f, e, i)
+    let t = tried-is r n a (tree-then t f) ∙ by-same (r .need) (soughtIn r a (tree-then t f)) (soughtIn r a f) (λ opt. rw e) ∙ sym (tried-is r n a f) in
+    ap₂ (λ (x : Result) (z : List Result). x ∷ z) t i

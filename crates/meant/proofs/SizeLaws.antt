@@ -1,5 +1,5 @@
 -- How long what is written gets at most, computed from the rows.
-use mathlib.Core.Path.{_≡_, refl}
+use mathlib.Core.Path.{_≡_, refl, sym, ap, ap₂, _∙_}
 use mathlib.Core.List.{List, [], _∷_, _++_}
 use mathlib.Core.Bool.{Bool, true, false, cond}
 use Prim.Native.Nat.{ℕ, suc, _+_, _≤_}
@@ -9,18 +9,17 @@ use lib.Dec.{eqb, leb}
 use borrow.Author.Tests.{ne-eqb, leb-true}
 use Rattle.grammar.specs.Bytes.{Bytes, text}
 use Rattle.number.proofs.Tests.{cases}
-use Rattle.writing.specs.Written.{escape}
-use Rattle.table.specs.Table.{Row, table, isKind, rowsOf}
+use Rattle.spelling.specs.Written.{escape}
+use Rattle.table.specs.Table.{Row, Entry, table, isKind, rowsIn, nameIn, settled}
 use Rattle.table.specs.Theorems.{onKinds, each-kind}
 use Rattle.table.specs.Says.{refusalIn}
 use Rattle.message.specs.Fields.{Field}
 use Rattle.message.specs.declared.values.Features.{Features}
-use Rattle.meant.specs.Meant.{meantBy, meantOf, firstIn}
-use Rattle.meant.specs.Written.{attribute, attributeOf, attributesOf, closed, emptyTag, featuresInside, childOf, childrenOf, elementOf, nameOf}
+use Rattle.meant.specs.Meant.{meantAs, meantBy, meantOf, firstIn, givenIn, rowsWith, refusedIn}
+use Rattle.meant.specs.Written.{attribute, attributeOf, attributesOf, closed, emptyTag, featuresInside, childOf, childrenOf, writtenNeed, written, elementBy, rooted, writtenIn}
 use Rattle.meant.proofs.WidthLaws.{width}
-use Rattle.meant.proofs.ValueLaws.{isChild, featuresChild, Puts, puts-none, puts-value, puts-child, puts}
+use Rattle.meant.proofs.ValueLaws.{isChild, featuresChild, Puts, puts-none, puts-value, puts-child, puts, Looks, looks, skips, look}
 use Rattle.meant.proofs.BuildLaws.{both-zero}
-use Rattle.meant.proofs.MessageLaws.{rooted}
 
 -- the end of a start tag of an n-byte name, what is inside, at most c bytes, and the end tag
 abbrev pub closedMost : ℕ → ℕ → ℕ
@@ -81,47 +80,73 @@ child-long n f =
     omega arith
 
 -- what a field puts down
-row-long : {r : Row} {x : Field} {texts : Bytes} → Puts r x texts → (length (attributeOf (r .name) x texts) ≤ attributeMost r) × (length (childOf (r .name) x) ≤ childMost r)
-row-long (puts-none a c m) = (rw a (omega arith), rw c (omega arith))
-row-long {r} (puts-value v a c w) =
+puts-long : (r : Row) {x : Field} {texts : Bytes} → Puts (r .form) (r .name) x texts → (length (attributeOf (r .name) x texts) ≤ attributeMost r) × (length (childOf (r .name) x) ≤ childMost r)
+puts-long r (puts-none a c g m) = (rw a (omega arith), rw c (omega arith))
+puts-long r (puts-value v m a c g e w) =
     let z = attribute-long (r .name) v in
     let s = w .small in
     (rw (a, w .plain) (omega arith), rw c (omega arith))
-row-long {r} (puts-child f a c k m) = (rw a (omega arith), rw (c, k) (child-long (r .name) f))
+puts-long r (puts-child f a c g k m) = (rw a (omega arith), rw (c, k) (child-long (r .name) f))
+
+row-long : (r : Row) (x : Field) (texts : Bytes) → refusalIn (meantBy r x texts) ≡ 0
+    → (length (attributeOf (r .name) (writtenNeed (r .need) x) texts) ≤ attributeMost r) × (length (childOf (r .name) (writtenNeed (r .need) x)) ≤ childMost r)
+unfolding meantBy attributeOf childOf
+row-long r x texts h = go (look (r .need))
+  where
+    go : Looks (r .need) → (length (attributeOf (r .name) (writtenNeed (r .need) x) texts) ≤ attributeMost r) × (length (childOf (r .name) (writtenNeed (r .need) x)) ≤ childMost r)
+    go (looks opt by w) = let (a, c) = puts-long r (puts (r .form) (r .name) x texts opt (sym (ap refusalIn (by (meantAs (r .form) x texts))) ∙ h)) in (rw (w x) a, rw (w x) c)
+    go (skips by w) = (rw (w x) (omega arith), rw (w x) (omega arith))
 
 pub rows-long : (rows : List Row) (fields : List Field) (texts : Bytes) → firstIn (meantOf rows fields texts) ≡ 0
-    → (length (attributesOf rows fields texts) ≤ sumOf attributeMost rows) × (length (childrenOf rows fields) ≤ sumOf childMost rows)
+    → (length (attributesOf rows (written rows fields) texts) ≤ sumOf attributeMost rows) × (length (childrenOf rows (written rows fields)) ≤ sumOf childMost rows)
 unfolding meantOf attributesOf childrenOf
 rows-long [] fields texts h = (omega arith, omega arith)
 rows-long (r ∷ rows) [] texts h = absurd (omega arith)
 rows-long (r ∷ rows) (x ∷ fields) texts h =
     let (e, z) = both-zero (refusalIn (meantBy r x texts)) (firstIn (meantOf rows fields texts)) h in
-    let (a, c) = row-long (puts r x texts e) in
+    let (a, c) = row-long r x texts e in
     let (b, d) = rows-long rows fields texts z in
-    let i = length-append (attributeOf (r .name) x texts) (attributesOf rows fields texts) in
-    let j = length-append (childOf (r .name) x) (childrenOf rows fields) in
+    let i = length-append (attributeOf (r .name) (writtenNeed (r .need) x) texts) (attributesOf rows (written rows fields) texts) in
+    let j = length-append (childOf (r .name) (writtenNeed (r .need) x)) (childrenOf rows (written rows fields)) in
     (omega arith, omega arith)
 
-pub element-long : (n : Bytes) (rows : List Row) (fields : List Field) (texts : Bytes) → firstIn (meantOf rows fields texts) ≡ 0 → length (elementOf n rows fields texts) ≤ elementMost n rows
+pub element-long : (n : Bytes) (rows : List Row) (fields : List Field) (texts : Bytes) → firstIn (meantOf rows fields texts) ≡ 0 → length (elementBy n rows fields texts) ≤ elementMost n rows
 element-long n rows fields texts h =
     let (a, c) = rows-long rows fields texts h in
-    let d = closed-long n (childrenOf rows fields) (sumOf childMost rows) c in
-    let i = length-append n (attributesOf rows fields texts ++ closed n (childrenOf rows fields)) in
-    let j = length-append (attributesOf rows fields texts) (closed n (childrenOf rows fields)) in
+    let l = written rows fields in
+    let d = closed-long n (childrenOf rows l) (sumOf childMost rows) c in
+    let i = length-append n (attributesOf rows l texts ++ closed n (childrenOf rows l)) in
+    let j = length-append (attributesOf rows l texts) (closed n (childrenOf rows l)) in
     omega arith
+
+-- settled rows have the same sums
+attributes-settled : (has : Bytes → Bool) (rows : List Row) → sumOf attributeMost (settled has rows) ≡ sumOf attributeMost rows
+attributes-settled has [] = refl
+attributes-settled has (r ∷ l) = ap (λ (n : ℕ). attributeMost r + n) (attributes-settled has l)
+
+children-settled : (has : Bytes → Bool) (rows : List Row) → sumOf childMost (settled has rows) ≡ sumOf childMost rows
+children-settled has [] = refl
+children-settled has (r ∷ l) = ap (λ (n : ℕ). childMost r + n) (children-settled has l)
+
+element-settled : (n : Bytes) (has : Bytes → Bool) (rows : List Row) → elementMost n (settled has rows) ≡ elementMost n rows
+element-settled n has rows = ap₂ (λ (a c : ℕ). 1 + length n + a + closedMost (length n) c) (attributes-settled has rows) (children-settled has rows)
 
 -- the root takes 17 bytes
 rooted-long : (w : Bytes) → length (rooted w) ≡ 17 + length w
 rooted-long w = let a = length-append w (text "</Hermes>") in omega arith
 
--- the bytes of a message of the kind k, at most
-abbrev pub mostOf : ℕ → ℕ
-mostOf k = 17 + elementMost (nameOf k) (rowsOf k)
+-- the bytes of a message of the kind k, at most, by a given table and by the one of document 01
+abbrev pub mostIn : List Entry → ℕ → ℕ
+mostIn by k = 17 + elementMost (nameIn by k) (rowsIn by k)
 
-pub message-long : (k : ℕ) (fields : List Field) (texts : Bytes) → firstIn (meantOf (rowsOf k) fields texts) ≡ 0 → length (rooted (elementOf (nameOf k) (rowsOf k) fields texts)) ≤ mostOf k
-message-long k fields texts h =
-    let e = element-long (nameOf k) (rowsOf k) fields texts h in
-    let r = rooted-long (elementOf (nameOf k) (rowsOf k) fields texts) in
+abbrev pub mostOf : ℕ → ℕ
+mostOf k = mostIn table k
+
+pub message-long : (by : List Entry) (k : ℕ) (fields : List Field) (texts : Bytes) → refusedIn by k fields texts ≡ 0 → length (writtenIn by k fields texts) ≤ mostIn by k
+message-long by k fields texts h =
+    let e = element-long (nameIn by k) (rowsWith (rowsIn by k) fields) fields texts h in
+    let r = rooted-long (elementBy (nameIn by k) (rowsWith (rowsIn by k) fields) fields texts) in
+    let s = element-settled (nameIn by k) (givenIn (rowsIn by k) fields) (rowsIn by k) in
     omega arith
 
 -- a BoardAvailable is the largest
@@ -129,7 +154,7 @@ abbrev pub LARGEST : ℕ
 LARGEST = 5933
 
 small-kinds : onKinds (λ k. leb (mostOf k) LARGEST) table ≡ true
-unfolding nameOf rowsOf table
+unfolding table
 small-kinds = refl
 
 pub most-largest : (k : ℕ) → isKind k ≡ true → mostOf k ≤ LARGEST

@@ -10,12 +10,12 @@ use Rattle.grammar.specs.Limits.{MESSAGE}
 use Rattle.grammar.specs.Name.{Name}
 use Rattle.grammar.specs.Tree.{Tree}
 use Rattle.grammar.specs.Message.{Message as IsMessage}
-use Rattle.table.specs.Table.{Row, table, isKind, rowsOf}
-use Rattle.table.specs.Says.{present, anInt, aText, saidOf}
+use Rattle.table.specs.Table.{Row, Entry, table, isKindIn, isKind, rowsOf}
+use Rattle.table.specs.Says.{present, anInt, aText, Said, saidIn, saidOf}
 use Rattle.message.specs.Fields.{Field, messageFrom, serviceFrom, noticeFrom, boardFrom, readyFrom, startFrom, transferFrom, aliveFrom, fieldsOf}
 use Rattle.message.specs.declared.kinds.Message.{Message}
-use Rattle.meant.specs.Meant.{meantOf, firstIn, refusalOf}
-use Rattle.meant.specs.Written.{nameOf, writtenOf}
+use Rattle.meant.specs.Meant.{meantOf, firstIn, meantIn, refusedIn, refusalOf}
+use Rattle.meant.specs.Written.{writtenIn, writtenOf}
 use Rattle.meant.specs.Notices.{description, notice, noticeMessage}
 use Rattle.meant.proofs.RowLaws.{goodRows}
 use Rattle.meant.proofs.BuildLaws as built
@@ -28,6 +28,15 @@ use Rattle.meant.proofs.NoticeLaws as notices
 pub element-back : {d : ℕ} (n : Bytes) (rows : List Row) (fields : List Field) (texts : Bytes) → Name n → goodRows rows ≡ true → firstIn (meantOf rows fields texts) ≡ 0
     → built.ReadsBack d n rows fields texts
 element-back n rows fields texts h k z = built.element-back n rows fields texts h k z
+
+-- by any sound table, what is written for fields of a kind reads back: its kind, no refusal, and each value
+pub reads-back-in : (by : List Entry) → messages.soundTable by ≡ true → (k : ℕ) (fields : List Field) (texts : Bytes) → isKindIn by k ≡ true → refusedIn by k fields texts ≡ 0
+    → (t : Tree)
+    × IsMessage (writtenIn by k fields texts) t
+    × (saidIn by t .kind ≡ k)
+    × (saidIn by t .refusal ≡ 0)
+    × (saidIn by t .values ≡ meantIn by k fields texts)
+reads-back-in by s k fields texts i h = let x = messages.message-back-in by s k fields texts i h in (x .reading, x .is-message, x .kind, x .refusal, x .values)
 
 -- T2.W2: "every message we write reads back as the message we meant": its kind, no refusal, and each value
 pub reads-back : (m : Message) (texts : Bytes) → isKind (m .kind) ≡ true → refusalOf m texts ≡ 0
@@ -75,7 +84,7 @@ fields-kept m = (
 
 -- its size at most, by the rows of its kind
 pub written-most : (m : Message) (texts : Bytes) → refusalOf m texts ≡ 0 → length (writtenOf m texts) ≤ sizes.mostOf (m .kind)
-written-most m texts h = sizes.message-long (m .kind) (fieldsOf m) texts h
+written-most m texts h = sizes.message-long table (m .kind) (fieldsOf m) texts h
 
 -- kind for kind
 pub most-each :
@@ -89,15 +98,15 @@ pub most-each :
     × (sizes.mostOf 8 ≡ 98)
     × (sizes.mostOf 9 ≡ 102)
     × (sizes.mostOf 10 ≡ 525)
-unfolding nameOf rowsOf table
+unfolding table
 most-each = (refl, refl, refl, refl, refl, refl, refl, refl, refl, refl)
 
 -- and whatever its kind
-pub written-small : (m : Message) (texts : Bytes) → isKind (m .kind) ≡ true → refusalOf m texts ≡ 0 → length (writtenOf m texts) ≤ 5933
+pub written-small : (m : Message) (texts : Bytes) → isKind (m .kind) ≡ true → refusalOf m texts ≡ 0 → length (writtenOf m texts) ≤ sizes.LARGEST
 written-small m texts i h = let x = written-most m texts h in let y = sizes.most-largest (m .kind) i in omega arith
 
 -- which is reached
-pub written-largest : (m : Message) × (texts : Bytes) × (refusalOf m texts ≡ 0) × (length (writtenOf m texts) ≡ 5933)
+pub written-largest : (m : Message) × (texts : Bytes) × (refusalOf m texts ≡ 0) × (length (writtenOf m texts) ≡ sizes.LARGEST)
 written-largest = (largest.largestBoard, largest.quotes, largest.largest-sendable, largest.largest-long)
 
 -- T2.W1: what is written is "a message of at most 65,536 bytes"

@@ -13,20 +13,20 @@ use Rattle.model.specs.Tests.{and-left, and-right, in-range}
 use Rattle.number.specs.Guid.{guidOf}
 use Rattle.number.specs.Version.{versionOf}
 use Rattle.printing.specs.Digits.{printInt}
-use Rattle.writing.specs.Written.{escape, printDecimal}
-use Rattle.writing.specs.Characters.{IsText}
-use Rattle.writing.specs.Decided.{isText}
-use Rattle.writing.proofs.Theorems.{text-decided, int-as-is, decimal-as-is, guid-as-is, int-inverse, decimal-inverse, escape-long}
+use Rattle.spelling.specs.Written.{escape, printDecimal}
+use Rattle.spelling.specs.Characters.{IsText}
+use Rattle.spelling.specs.Decided.{isText}
+use Rattle.spelling.proofs.Theorems.{text-decided, int-as-is, decimal-as-is, guid-as-is, int-inverse, decimal-inverse, escape-long}
 use Rattle.value.specs.declared.text.Span.{Span}
 use Rattle.value.specs.declared.text.Words.the-variants.{Absent as NoWords, Present as IsWords}
-use Rattle.table.specs.Table.{Row, Form, words, someWords, whole, guid, version, positive, features}
-use Rattle.table.specs.Says.{Value, aText, anInt, millionths, anId, noted, Result, present, refused, TOO_LONG, when, without, judged, refusalIn}
+use Rattle.table.specs.Table.{Form, words, someWords, whole, guid, version, positive, features, Need, required, optional, requiredWith, ignored}
+use Rattle.table.specs.Says.{Value, aText, anInt, millionths, anId, noted, Result, absent, present, refused, TOO_LONG, when, without, byNeed, judged, refusalIn}
 use Rattle.message.specs.Fields.{Field, none, aWords, aWhole, aMeasure, aGuid, aFeatures}
 use Rattle.message.specs.declared.values.Whole.the-variants.{Absent as NoWhole, Present as IsWhole}
 use Rattle.message.specs.declared.values.Measure.the-variants.{Absent as NoMeasure, Present as IsMeasure}
 use Rattle.message.specs.declared.values.Features.{Features}
-use Rattle.meant.specs.Meant.{textAt, sendable, textMeant, wholeMeant, MOST, measureMeant, idMeant, featuresMeant, meantBy}
-use Rattle.meant.specs.Written.{attribute, attributeOf, closed, featuresInside, childOf}
+use Rattle.meant.specs.Meant.{textAt, sendable, textMeant, wholeMeant, MOST, measureMeant, idMeant, featuresMeant, meantAs, isGiven}
+use Rattle.meant.specs.Written.{attribute, attributeOf, closed, featuresInside, childOf, writtenNeed}
 use Rattle.meant.proofs.WidthLaws.{width, int-width, decimal-width, guid-width, version-width}
 
 -- "child SupportedFeatures": the one form that is no attribute
@@ -147,34 +147,45 @@ features-worth features f h = (refl, refl)
 abbrev pub featuresChild : Bytes → Features → Bytes
 featuresChild n f = text "<" ++ (n ++ closed n (featuresInside f))
 
--- what a field puts down for its row: nothing, an attribute, or the child
-pub data Puts (r : Row) (x : Field) (texts : Bytes) : Type 0 where
-  puts-none : attributeOf (r .name) x texts ≡ [] → childOf (r .name) x ≡ [] → meantBy r x texts ≡ without (r .optional) → Puts r x texts
-  puts-value : (v : Bytes) → attributeOf (r .name) x texts ≡ attribute (r .name) v → childOf (r .name) x ≡ [] → Worth (r .form) v (meantBy r x texts) → Puts r x texts
-  puts-child : (f : Features) → attributeOf (r .name) x texts ≡ [] → childOf (r .name) x ≡ featuresChild (r .name) f → isChild (r .form) ≡ true
-      → meantBy r x texts ≡ present (noted (f .forecast) (f .query) (f .send)) → Puts r x texts
+-- what a field puts down for a row of the form t and the name n: nothing, an attribute, or the child
+pub data Puts (t : Form) (n : Bytes) (x : Field) (texts : Bytes) : Type 0 where
+  puts-none : attributeOf n x texts ≡ [] → childOf n x ≡ [] → isGiven x ≡ false → ((opt : Bool) → meantAs t x texts opt ≡ without opt) → Puts t n x texts
+  puts-value : (v : Bytes) (m : Result) → attributeOf n x texts ≡ attribute n v → childOf n x ≡ [] → isGiven x ≡ true → ((opt : Bool) → meantAs t x texts opt ≡ m) → Worth t v m → Puts t n x texts
+  puts-child : (f : Features) → attributeOf n x texts ≡ [] → childOf n x ≡ featuresChild n f → isGiven x ≡ false → isChild t ≡ true
+      → ((opt : Bool) → meantAs t x texts opt ≡ present (noted (f .forecast) (f .query) (f .send))) → Puts t n x texts
 
-guid-puts : (r : Row) (there : Bool) (v texts : Bytes) → let x = aGuid (record { there = there; bytes = v }) in refusalIn (meantBy r x texts) ≡ 0 → Puts r x texts
-unfolding meantBy attributeOf childOf
-guid-puts r true v texts h = puts-value v refl refl (id-worth (r .form) v h)
-guid-puts r false v texts h = puts-none refl refl refl
+guid-puts : (t : Form) (n : Bytes) (there : Bool) (v texts : Bytes) (opt : Bool) → let x = aGuid (record { there = there; bytes = v }) in refusalIn (meantAs t x texts opt) ≡ 0 → Puts t n x texts
+unfolding attributeOf childOf
+guid-puts t n true v texts opt h = puts-value v (idMeant t v) refl refl refl (λ o. refl) (id-worth t v h)
+guid-puts t n false v texts opt h = puts-none refl refl refl (λ o. refl)
 
-features-puts : (r : Row) (there a b c : Bool) (texts : Bytes) → let x = aFeatures (record { there = there; forecast = a; query = b; send = c }) in refusalIn (meantBy r x texts) ≡ 0 → Puts r x texts
-unfolding meantBy attributeOf childOf
-features-puts r true a b c texts h =
+features-puts : (t : Form) (n : Bytes) (there a b c : Bool) (texts : Bytes) (opt : Bool) → let x = aFeatures (record { there = there; forecast = a; query = b; send = c }) in refusalIn (meantAs t x texts opt) ≡ 0 → Puts t n x texts
+unfolding attributeOf childOf
+features-puts t n true a b c texts opt h =
     let f : Features = record { there = true; forecast = a; query = b; send = c } in
-    let (k, e) = features-worth (r .form) f h in
-    puts-child f refl refl k e
-features-puts r false a b c texts h = puts-none refl refl refl
+    let (k, e) = features-worth t f h in
+    puts-child f refl refl refl k (λ o. e)
+features-puts t n false a b c texts opt h = puts-none refl refl refl (λ o. refl)
 
-pub puts : (r : Row) (x : Field) (texts : Bytes) → refusalIn (meantBy r x texts) ≡ 0 → Puts r x texts
-unfolding meantBy attributeOf childOf
-puts r none texts h = absurd (omega arith)
-puts r (aWords NoWords) texts h = puts-none refl refl refl
-puts r (aWords (IsWords p)) texts h = puts-value (textAt texts p) refl refl (text-worth (r .form) texts p h)
-puts r (aWhole NoWhole) texts h = puts-none refl refl refl
-puts r (aWhole (IsWhole k)) texts h = puts-value (printInt k) refl refl (whole-worth (r .form) k h)
-puts r (aMeasure NoMeasure) texts h = puts-none refl refl refl
-puts r (aMeasure (IsMeasure x)) texts h = puts-value (printDecimal x) refl refl (measure-worth (r .form) x h)
-puts r (aGuid g) texts h = guid-puts r (g .there) (g .bytes) texts h
-puts r (aFeatures f) texts h = features-puts r (f .there) (f .forecast) (f .query) (f .send) texts h
+pub puts : (t : Form) (n : Bytes) (x : Field) (texts : Bytes) (opt : Bool) → refusalIn (meantAs t x texts opt) ≡ 0 → Puts t n x texts
+unfolding attributeOf childOf
+puts t n none texts opt h = absurd (omega arith)
+puts t n (aWords NoWords) texts opt h = puts-none refl refl refl (λ o. refl)
+puts t n (aWords (IsWords p)) texts opt h = puts-value (textAt texts p) (textMeant t texts p) refl refl refl (λ o. refl) (text-worth t texts p h)
+puts t n (aWhole NoWhole) texts opt h = puts-none refl refl refl (λ o. refl)
+puts t n (aWhole (IsWhole k)) texts opt h = puts-value (printInt k) (wholeMeant t k) refl refl refl (λ o. refl) (whole-worth t k h)
+puts t n (aMeasure NoMeasure) texts opt h = puts-none refl refl refl (λ o. refl)
+puts t n (aMeasure (IsMeasure x)) texts opt h = puts-value (printDecimal x) (measureMeant t x) refl refl refl (λ o. refl) (measure-worth t x h)
+puts t n (aGuid g) texts opt h = guid-puts t n (g .there) (g .bytes) texts opt h
+puts t n (aFeatures f) texts opt h = features-puts t n (f .there) (f .forecast) (f .query) (f .send) texts opt h
+
+-- a need that is looked at, with or without leave to be missing, or not
+pub data Looks (n : Need) : Type 0 where
+  looks : (opt : Bool) → ((f : Bool → Result) → byNeed n f ≡ f opt) → ((x : Field) → writtenNeed n x ≡ x) → Looks n
+  skips : ((f : Bool → Result) → byNeed n f ≡ absent) → ((x : Field) → writtenNeed n x ≡ none) → Looks n
+
+pub look : (n : Need) → Looks n
+look required = looks false (λ f. refl) (λ x. refl)
+look optional = looks true (λ f. refl) (λ x. refl)
+look (requiredWith m) = skips (λ f. refl) (λ x. refl)
+look ignored = skips (λ f. refl) (λ x. refl)

@@ -1,19 +1,19 @@
 -- What a message to be sent means, field by field, and why it may be refused.
 use mathlib.Core.Path.{_≡_}
 use mathlib.Core.List.{List, [], _∷_}
-use mathlib.Core.Bool.{Bool, true, false, _&&_, cond}
+use mathlib.Core.Bool.{Bool, true, false, _&&_, _||_, cond}
 use Prim.Native.Nat.{ℕ, _+_}
 use lib.ListN.{length, take, drop}
 use lib.Dec.{eqb, leb}
-use Rattle.grammar.specs.Bytes.{Bytes, nonEmpty, within}
+use Rattle.grammar.specs.Bytes.{Bytes, nonEmpty, within, same}
 use Rattle.number.specs.Guid.{guidOf}
 use Rattle.number.specs.Version.{versionOf}
-use Rattle.writing.specs.Decided.{isText}
+use Rattle.spelling.specs.Decided.{isText}
 use Rattle.value.specs.declared.text.Span.{Span}
 use Rattle.value.specs.declared.text.Words.{Words}
 use Rattle.value.specs.declared.text.Words.the-variants.{Absent as NoWords, Present as IsWords}
-use Rattle.table.specs.Table.{Row, Form, words, someWords, whole, guid, version, positive, features, rowsOf}
-use Rattle.table.specs.Says.{Value, aText, anInt, millionths, anId, noted, Result, absent, present, refused, TOO_LONG, BAD, limited, when, without, refusalIn, first}
+use Rattle.table.specs.Table.{Row, Form, words, someWords, whole, guid, version, positive, features, Entry, table, rowsIn, settled}
+use Rattle.table.specs.Says.{Value, aText, anInt, millionths, anId, noted, Result, absent, present, refused, TOO_LONG, BAD, limited, when, without, byNeed, refusalIn, first}
 use Rattle.message.specs.Fields.{Field, none, aWords, aWhole, aMeasure, aGuid, aFeatures, fieldsOf}
 use Rattle.message.specs.declared.values.Whole.{Whole}
 use Rattle.message.specs.declared.values.Whole.the-variants.{Absent as NoWhole, Present as IsWhole}
@@ -80,17 +80,21 @@ featuresMeant version f = refused BAD
 featuresMeant positive f = refused BAD
 featuresMeant features f = present (noted (f .forecast) (f .query) (f .send))
 
--- what a field means in a row: a field of another form is none of the table's
+-- what a field means by a form, where it may be missing or not: a field of another form is none of the table's
+abbrev pub meantAs : Form → Field → Bytes → Bool → Result
+meantAs t none texts opt = refused BAD
+meantAs t (aWords NoWords) texts opt = without opt
+meantAs t (aWords (IsWords p)) texts opt = textMeant t texts p
+meantAs t (aWhole NoWhole) texts opt = without opt
+meantAs t (aWhole (IsWhole k)) texts opt = wholeMeant t k
+meantAs t (aMeasure NoMeasure) texts opt = without opt
+meantAs t (aMeasure (IsMeasure x)) texts opt = measureMeant t x
+meantAs t (aGuid g) texts opt = cond (g .there) (idMeant t (g .bytes)) (without opt)
+meantAs t (aFeatures f) texts opt = cond (f .there) (featuresMeant t f) (without opt)
+
+-- what a field means in a row
 unfoldable pub meantBy : Row → Field → Bytes → Result
-meantBy r none texts = refused BAD
-meantBy r (aWords NoWords) texts = without (r .optional)
-meantBy r (aWords (IsWords p)) texts = textMeant (r .form) texts p
-meantBy r (aWhole NoWhole) texts = without (r .optional)
-meantBy r (aWhole (IsWhole k)) texts = wholeMeant (r .form) k
-meantBy r (aMeasure NoMeasure) texts = without (r .optional)
-meantBy r (aMeasure (IsMeasure x)) texts = measureMeant (r .form) x
-meantBy r (aGuid g) texts = cond (g .there) (idMeant (r .form) (g .bytes)) (without (r .optional))
-meantBy r (aFeatures f) texts = cond (f .there) (featuresMeant (r .form) f) (without (r .optional))
+meantBy r x texts = byNeed (r .need) (meantAs (r .form) x texts)
 
 -- what each field means, in table order
 unfoldable pub meantOf : List Row → List Field → Bytes → List Result
@@ -102,9 +106,38 @@ abbrev pub firstIn : List Result → ℕ
 firstIn [] = 0
 firstIn (x ∷ l) = first (refusalIn x) (firstIn l)
 
--- "In sending, 4, 5, 6 in table order": 0 if no row refuses; of fields of a kind, and of a message
+-- a field that is there as an attribute
+abbrev pub isGiven : Field → Bool
+isGiven none = false
+isGiven (aWords NoWords) = false
+isGiven (aWords (IsWords p)) = true
+isGiven (aWhole NoWhole) = false
+isGiven (aWhole (IsWhole k)) = true
+isGiven (aMeasure NoMeasure) = false
+isGiven (aMeasure (IsMeasure x)) = true
+isGiven (aGuid g) = g .there
+isGiven (aFeatures f) = false
+
+-- the attribute n is there
+abbrev pub givenIn : List Row → List Field → Bytes → Bool
+givenIn [] l n = false
+givenIn (r ∷ k) [] n = false
+givenIn (r ∷ k) (x ∷ l) n = (same n (r .name) && isGiven x) || givenIn k l n
+
+-- rows, by what is there of their fields
+abbrev pub rowsWith : List Row → List Field → List Row
+rowsWith rows fields = settled (givenIn rows fields) rows
+
+-- what fields of a kind mean by a given table
+abbrev pub meantIn : List Entry → ℕ → List Field → Bytes → List Result
+meantIn by k fields texts = meantOf (rowsWith (rowsIn by k) fields) fields texts
+
+-- "In sending, 4, 5, 6 in table order": 0 if no row refuses; of fields of a kind, by a given table and by the one of document 01, and of a message
+abbrev pub refusedIn : List Entry → ℕ → List Field → Bytes → ℕ
+refusedIn by k fields texts = firstIn (meantIn by k fields texts)
+
 abbrev pub refusalBy : ℕ → List Field → Bytes → ℕ
-refusalBy k fields texts = firstIn (meantOf (rowsOf k) fields texts)
+refusalBy k fields texts = refusedIn table k fields texts
 
 abbrev pub refusalOf : Message → Bytes → ℕ
 refusalOf m texts = refusalBy (m .kind) (fieldsOf m) texts

@@ -2,18 +2,17 @@
 use mathlib.Core.List.{List, [], _∷_, _++_}
 use mathlib.Core.Bool.{Bool, true, false, cond}
 use Prim.Native.Nat.{ℕ}
-use lib.Dec.{eqb}
 use Rattle.grammar.specs.Bytes.{Bytes, text, nonEmpty}
 use Rattle.printing.specs.Digits.{printInt}
-use Rattle.writing.specs.Written.{escape, printDecimal}
+use Rattle.spelling.specs.Written.{escape, printDecimal}
 use Rattle.value.specs.declared.text.Words.the-variants.{Absent as NoWords, Present as IsWords}
-use Rattle.table.specs.Table.{Row, Entry, table, rowsOf}
+use Rattle.table.specs.Table.{Need, required, optional, requiredWith, ignored, Row, Entry, table, rowsIn, nameIn}
 use Rattle.message.specs.Fields.{Field, none, aWords, aWhole, aMeasure, aGuid, aFeatures, fieldsOf}
 use Rattle.message.specs.declared.values.Whole.the-variants.{Absent as NoWhole, Present as IsWhole}
 use Rattle.message.specs.declared.values.Measure.the-variants.{Absent as NoMeasure, Present as IsMeasure}
 use Rattle.message.specs.declared.values.Features.{Features}
 use Rattle.message.specs.declared.kinds.Message.{Message}
-use Rattle.meant.specs.Meant.{textAt}
+use Rattle.meant.specs.Meant.{textAt, rowsWith}
 
 -- "one space before each attribute, double quotes": an attribute of the name n with the value v
 abbrev pub attribute : Bytes → Bytes → Bytes
@@ -65,20 +64,39 @@ childrenOf (r ∷ k) [] = []
 childrenOf (r ∷ k) (x ∷ l) = childOf (r .name) x ++ childrenOf k l
 
 -- the name of a kind
-abbrev pub nameIn : List Entry → ℕ → Bytes
-nameIn [] k = []
-nameIn (e ∷ l) k = cond (eqb (e .kind) k) (e .name) (nameIn l k)
-
-unfoldable pub nameOf : ℕ → Bytes
+abbrev pub nameOf : ℕ → Bytes
 nameOf k = nameIn table k
 
 -- an element of a name with these rows and fields
 abbrev pub elementOf : Bytes → List Row → List Field → Bytes → Bytes
 elementOf n rows fields texts = text "<" ++ (n ++ (attributesOf rows fields texts ++ closed n (childrenOf rows fields)))
 
--- "The writer: no declaration, no glue except one space before each attribute .."; of fields of a kind, and of a message
+-- what is not looked at is not written
+abbrev pub writtenNeed : Need → Field → Field
+writtenNeed required x = x
+writtenNeed optional x = x
+writtenNeed (requiredWith n) x = none
+writtenNeed ignored x = none
+
+abbrev pub written : List Row → List Field → List Field
+written [] l = l
+written (r ∷ k) [] = []
+written (r ∷ k) (x ∷ l) = writtenNeed (r .need) x ∷ written k l
+
+-- an element, of what is looked at
+abbrev pub elementBy : Bytes → List Row → List Field → Bytes → Bytes
+elementBy n rows fields texts = elementOf n rows (written rows fields) texts
+
+abbrev pub rooted : Bytes → Bytes
+rooted w = text "<Hermes>" ++ (w ++ text "</Hermes>")
+
+-- "The writer: no declaration, no glue except one space before each attribute .."; of fields of a kind, by a given table and by the one of document
+-- 01, and of a message
+abbrev pub writtenIn : List Entry → ℕ → List Field → Bytes → Bytes
+writtenIn by k fields texts = rooted (elementBy (nameIn by k) (rowsWith (rowsIn by k) fields) fields texts)
+
 abbrev pub writtenBy : ℕ → List Field → Bytes → Bytes
-writtenBy k fields texts = text "<Hermes>" ++ (elementOf (nameOf k) (rowsOf k) fields texts ++ text "</Hermes>")
+writtenBy k fields texts = writtenIn table k fields texts
 
 abbrev pub writtenOf : Message → Bytes → Bytes
 writtenOf m texts = writtenBy (m .kind) (fieldsOf m) texts

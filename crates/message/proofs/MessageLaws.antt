@@ -1,12 +1,18 @@
 -- Messages put together.
 use mathlib.Core.Path.{_≡_, refl, sym, ap, _∙_}
-use mathlib.Core.List.{[]}
+use mathlib.Core.List.{List, []}
 use mathlib.Core.Bool.{Bool, true, false, _||_, cond}
 use Prim.Native.Nat.{ℕ}
 use lib.Dec.{eqb}
 use borrow.Author.Tests.{ne-eqb, eq-eqb}
-use Rattle.message.specs.Fields.{serviceFrom, noticeFrom, boardFrom, readyFrom, startFrom, transferFrom, aliveFrom, only, messageFrom, blank}
-use Rattle.message.specs.Checked.{unread, judgedTo}
+use Rattle.exact.specs.Chain.{clash}
+use Rattle.grammar.specs.Bytes.{Bytes}
+use Rattle.grammar.specs.Tree.{Tree}
+use Rattle.value.specs.declared.text.Words.{Words}
+use Rattle.table.specs.Table.{Need, required, optional, requiredWith, ignored, Row, rowsOf}
+use Rattle.table.specs.Theorems.{plainNeed, rows-table}
+use Rattle.message.specs.Fields.{placedBy, fieldsIn, serviceFrom, noticeFrom, boardFrom, readyFrom, startFrom, transferFrom, aliveFrom, only, messageFrom, blank}
+use Rattle.message.specs.Checked.{unread, messageOf, judgedTo}
 use Rattle.message.specs.declared.checking.Checked.{Checked}
 use Rattle.message.specs.declared.kinds.ServiceDescription.{ServiceDescription as Service}
 use Rattle.message.specs.declared.kinds.Notification.{Notification as Notice}
@@ -32,6 +38,17 @@ unfolding messageFrom
 none-there k =
     blank-made k (ap serviceFrom (no-fields (eqb k 1))) (ap noticeFrom (no-fields (eqb k 2))) (ap boardFrom (no-fields (eqb k 3))) (ap readyFrom (no-fields (eqb k 5))) (ap startFrom (no-fields (eqb k 7)))
     (ap transferFrom (no-fields (eqb k 8 || eqb k 9))) (ap aliveFrom (no-fields (eqb k 10)))
+
+-- of plain rows, every text has its place
+pub plain-placed : (n : Need) (w : Words) → plainNeed n ≡ true → placedBy n w ≡ w
+plain-placed required w h = refl
+plain-placed optional w h = refl
+plain-placed (requiredWith m) w h = clash (sym h)
+plain-placed ignored w h = clash (sym h)
+
+-- and the rows of document 01 stand as they are
+pub message-table : (k : ℕ) (place : Bytes → Words) (t : Tree) → messageOf k place t ≡ messageFrom k (fieldsIn (rowsOf k) place t)
+message-table k place t = ap (λ (rows : List Row). messageFrom k (fieldsIn rows place t)) (rows-table k t)
 
 abbrev answered : ℕ → ℕ → ℕ → Message → Checked
 answered n start end m = record { refusal = n; start = start; end = end; place = 0; message = m }

@@ -15,8 +15,8 @@ use Rattle.tags.specs.Places.{valueAt, valueEnd}
 use Rattle.reader.specs.Outline.{childOf as inner, tagIn, lead}
 use Rattle.value.specs.declared.text.Words.{Words}
 use Rattle.value.specs.declared.text.Words.the-variants.{Absent, Present}
-use Rattle.table.specs.Table.{rowsOf}
-use Rattle.table.specs.Says.{childOf, saidOf}
+use Rattle.table.specs.Table.{Entry, table}
+use Rattle.table.specs.Says.{childOf, rowsFor, Said, saidIn}
 use Rattle.message.specs.Fields.{fieldsIn, messageFrom, blank}
 use Rattle.message.specs.declared.kinds.Message.{Message}
 use Rattle.message.specs.declared.checking.Checked.{Checked}
@@ -31,8 +31,11 @@ abbrev pub unread : ℕ → ℕ → ℕ → Checked
 unread n start place = record { refusal = n; start = start; end = 0; place = place; message = blank 0 }
 
 -- the message of an element of kind k, read as t, in which `place` tells where the raw values stand
+abbrev pub messageIn : List Entry → ℕ → (Bytes → Words) → Tree → Message
+messageIn by k place t = messageFrom k (fieldsIn (rowsFor by k t) place t)
+
 abbrev pub messageOf : ℕ → (Bytes → Words) → Tree → Message
-messageOf k place t = messageFrom k (fieldsIn (rowsOf k) place t)
+messageOf k place t = messageIn table k place t
 
 -- a message from start to end, whose root's child is of kind k, is refused by n or not, and says m
 abbrev pub judgedTo : ℕ → ℕ → ℕ → ℕ → Message → Checked
@@ -42,12 +45,19 @@ judgedTo start end k n m = record { refusal = n; start = start; end = end; place
 abbrev pub placesIn : ℕ → Layout → Bytes → Words
 placesIn start l = placeOf (start + length (lead l) + length (tagIn (inner l) .name)) (tagIn (inner l) .attributes)
 
--- of a message laid out as l from start to end: what its reading says, and where its texts stand
-abbrev pub checkedAs : ℕ → ℕ → Layout → Checked
-checkedAs start end l = judgedTo start end (saidOf (readLayout l) .kind) (saidOf (readLayout l) .refusal) (messageOf (saidOf (readLayout l) .kind) (placesIn start l) (childOf (readLayout l)))
+-- of a message laid out as l from start to end: what its reading says by a table, and where its texts stand
+abbrev pub checkedIn : List Entry → ℕ → ℕ → Layout → Checked
+checkedIn by start end l = judgedTo start end (saidIn by (readLayout l) .kind) (saidIn by (readLayout l) .refusal) (messageIn by (saidIn by (readLayout l) .kind) (placesIn start l) (childOf (readLayout l)))
 
-pub data Checks (s : Bytes) (r : Checked) : Type 0 where
-  ends : (start end : ℕ) → Answers s (endsAt start end) → (l : Layout) → Laid (take (end - start) (drop start s)) l → r ≡ checkedAs start end l → Checks s r
-  more : (start : ℕ) → Answers s (moreFrom start) → r ≡ unread 1 start 0 → Checks s r
-  malformed : (start place : ℕ) → Answers s (malformedAt start place) → r ≡ unread 2 start place → Checks s r
-  too-long : (start : ℕ) → Answers s (tooLongFrom start) → r ≡ unread 3 start 0 → Checks s r
+abbrev pub checkedAs : ℕ → ℕ → Layout → Checked
+checkedAs start end l = checkedIn table start end l
+
+-- by a given table, and by the one of document 01
+pub data ChecksBy (by : List Entry) (s : Bytes) (r : Checked) : Type 0 where
+  ends : (start end : ℕ) → Answers s (endsAt start end) → (l : Layout) → Laid (take (end - start) (drop start s)) l → r ≡ checkedIn by start end l → ChecksBy by s r
+  more : (start : ℕ) → Answers s (moreFrom start) → r ≡ unread 1 start 0 → ChecksBy by s r
+  malformed : (start place : ℕ) → Answers s (malformedAt start place) → r ≡ unread 2 start place → ChecksBy by s r
+  too-long : (start : ℕ) → Answers s (tooLongFrom start) → r ≡ unread 3 start 0 → ChecksBy by s r
+
+abbrev pub Checks : Bytes → Checked → Type 0
+Checks s r = ChecksBy table s r

@@ -12,11 +12,11 @@ use Rattle.number.specs.Guid.{may, filled, guidOf}
 use Rattle.number.specs.Version.{oneToThree, versionOf}
 use Rattle.grammar.specs.Bytes.{Bytes, text, within}
 use Rattle.grammar.specs.Tree.{Pair, Tree, tree, Forest, no-trees, tree-then}
-use Rattle.table.specs.Table.{words, someWords, whole, guid, version, positive, table, kindOf, rowsOf}
+use Rattle.table.specs.Table.{words, someWords, whole, guid, version, positive, _is_, ifThere, table, settled}
 use Rattle.value.specs.declared.id.Guid.{Guid}
 use Rattle.value.specs.declared.text.Words.{Words}
 use Rattle.value.specs.declared.text.Words.the-variants.{Absent, Present}
-use Rattle.message.specs.Fields.{fieldsIn, fieldOf, messageFrom, blank as nothing}
+use Rattle.message.specs.Fields.{aWords, fieldsIn, fieldFor, messageFrom, blank as nothing}
 use Rattle.message.specs.Checked.{unread, messageOf, judgedTo}
 use Rattle.message.specs.declared.values.Whole.the-variants.{Present as IsWhole}
 use Rattle.message.specs.declared.values.Measure.the-variants.{Present as IsMeasure}
@@ -102,13 +102,13 @@ pub board-fields :
       weight = IsMeasure 7000000;
       order = at "WorkOrderId";
     }
-unfolding rowsOf table fieldsIn fieldOf messageFrom tried judged guidOf filled may hex intOf signed sized numberOf parted unsigned decimal written short above decimals before behind trim dropFront dropBack keepBefore blank digit all nonEmpty valueFrom within
+unfolding table fieldsIn fieldFor messageFrom tried judged guidOf filled may hex intOf signed sized numberOf parted unsigned decimal written short above decimals before behind trim dropFront dropBack keepBefore blank digit all nonEmpty valueFrom within
 board-fields = refl
 
 pub service-fields :
     messageOf 1 spot (tree (text "ServiceDescription") ("MachineId" := "m" ∷ "LaneId" := "7" ∷ "Version" := "1.6" ∷ []) (tree-then (featuring (tree-then (bare "FeatureQueryBoardInfo") no-trees)) no-trees)) .service
     ≡ record { machine = at "MachineId"; lane = IsWhole 7; version = at "Version"; features = record { there = true; forecast = false; query = true; send = false } }
-unfolding rowsOf table fieldsIn fieldOf messageFrom tried judged intOf signed sized trim dropFront dropBack keepBefore blank digit all nonEmpty valueFrom within
+unfolding table fieldsIn fieldFor messageFrom tried judged intOf signed sized trim dropFront dropBack keepBefore blank digit all nonEmpty valueFrom within
 service-fields = refl
 
 pub other-fields :
@@ -119,5 +119,12 @@ pub other-fields :
     × (messageOf 8 spot (tree (text "StopTransport") ("TransferState" := "3" ∷ "BoardId" := "01234567-89ab-cdef-0123-456789abcdef" ∷ []) no-trees) .transfer ≡ record { state = IsWhole 3; id = someId })
     × (messageOf 9 spot (tree (text "TransportFinished") ("TransferState" := "1" ∷ "BoardId" := "01234567-89ab-cdef-0123-456789abcdef" ∷ []) no-trees) .transfer ≡ record { state = IsWhole 1; id = someId })
     × (messageOf 10 spot (tree (text "CheckAlive") ("Type" := "2" ∷ "Id" := "i" ∷ []) no-trees) .alive ≡ record { ping = IsWhole 2; id = at "Id" })
-unfolding rowsOf table fieldsIn fieldOf messageFrom tried judged guidOf filled may hex intOf signed sized numberOf parted unsigned decimal written short above decimals before behind trim dropFront dropBack keepBefore blank digit all nonEmpty valueFrom within
+unfolding table fieldsIn fieldFor messageFrom tried judged guidOf filled may hex intOf signed sized numberOf parted unsigned decimal written short above decimals before behind trim dropFront dropBack keepBefore blank digit all nonEmpty valueFrom within
 other-fields = (refl, refl, refl, refl, refl, refl)
+
+-- a text that is required with another attribute: its place, or none where it is not looked at
+pub with-another :
+    (fieldsIn (settled (λ n. true) (ifThere "BoardId" ("MadeBy" is words 80) ∷ [])) spot (bare "X") ≡ aWords (at "MadeBy") ∷ [])
+    × (fieldsIn (settled (λ n. false) (ifThere "BoardId" ("MadeBy" is words 80) ∷ [])) spot (bare "X") ≡ aWords Absent ∷ [])
+unfolding fieldsIn fieldFor
+with-another = (refl, refl)

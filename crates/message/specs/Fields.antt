@@ -11,7 +11,7 @@ use Rattle.value.specs.Ids.{noId}
 use Rattle.value.specs.declared.id.Guid.{Guid}
 use Rattle.value.specs.declared.text.Words.{Words}
 use Rattle.value.specs.declared.text.Words.the-variants.{Absent as NoWords}
-use Rattle.table.specs.Table.{Row, Form, words, someWords, whole, guid, version, positive, features, rowsOf}
+use Rattle.table.specs.Table.{Row, Form, words, someWords, whole, guid, version, positive, features, Need, required, optional, requiredWith, ignored}
 use Rattle.table.specs.Says.{Value, aText, anInt, millionths, anId, noted, Result, absent, present, refused, tried}
 use Rattle.message.specs.declared.values.Whole.{Whole}
 use Rattle.message.specs.declared.values.Whole.the-variants.{Absent as NoWhole, Present as IsWhole}
@@ -76,18 +76,26 @@ pub data Field : Type 0 where
   aGuid : Guid → Field
   aFeatures : Features → Field
 
--- the field of a row, whose raw value stands at w
-unfoldable pub fieldOf : Row → Words → Result → Field
-fieldOf r w x = go (r .form)
-  where
-    go : Form → Field
-    go (words n) = aWords w
-    go (someWords n) = aWords w
-    go (whole lo hi) = aWhole (wholeIn x)
-    go guid = aGuid (idIn x)
-    go version = aWords w
-    go positive = aMeasure (measureIn x)
-    go features = aFeatures (featuresIn x)
+-- the place of a text by its need: what is not looked at has none
+abbrev pub placedBy : Need → Words → Words
+placedBy required w = w
+placedBy optional w = w
+placedBy (requiredWith n) w = NoWords
+placedBy ignored w = NoWords
+
+-- the field of a form, whose raw value stands at w
+unfoldable pub fieldFor : Form → Words → Result → Field
+fieldFor (words n) w x = aWords w
+fieldFor (someWords n) w x = aWords w
+fieldFor (whole lo hi) w x = aWhole (wholeIn x)
+fieldFor guid w x = aGuid (idIn x)
+fieldFor version w x = aWords w
+fieldFor positive w x = aMeasure (measureIn x)
+fieldFor features w x = aFeatures (featuresIn x)
+
+-- of a row
+abbrev pub fieldOf : Row → Words → Result → Field
+fieldOf r w x = fieldFor (r .form) (placedBy (r .need) w) x
 
 -- the fields of the rows, in table order, where `place` tells where the raw value of a name stands
 unfoldable pub fieldsIn : List Row → (Bytes → Words) → Tree → List Field

@@ -11,8 +11,9 @@ use Rattle.value.specs.Text.{Text}
 use Rattle.value.specs.declared.text.Span.{Span}
 use Rattle.value.specs.declared.text.Words.{Words}
 use Rattle.value.specs.declared.text.Words.the-variants.{Absent, Present}
-use Rattle.table.specs.Says.{childOf, saidOf}
-use Rattle.message.specs.Checked.{messageOf}
+use Rattle.table.specs.Table.{Entry, table}
+use Rattle.table.specs.Says.{childOf, Said, saidIn}
+use Rattle.message.specs.Checked.{messageIn}
 use Rattle.message.specs.declared.checking.Checked.{Checked}
 
 -- of these attributes as read, the one of the name n has the value v
@@ -31,12 +32,15 @@ pub record ReadsAt (s n : Bytes) (l : List Pair) (p : Span) : Type 0 where
   pub has : Has n value l
 
 -- T3.14: "what we hand out of a message is taken from that": the fields are those of the one reading, and a text's place is
--- where its raw value stands
-pub record HandedOut (s : Bytes) (r : Checked) : Type 0 where
+-- where its raw value stands; by a given table, and by the one of document 01
+pub record HandedBy (by : List Entry) (s : Bytes) (r : Checked) : Type 0 where
   pub reading : Tree
   pub message : IsMessage (take (r .end - r .start) (drop (r .start) s)) reading
   pub one : (t : Tree) → IsMessage (take (r .end - r .start) (drop (r .start) s)) t → t ≡ reading
   pub place : Bytes → Words
-  pub fields : r .message ≡ messageOf (saidOf reading .kind) place (childOf reading)
+  pub fields : r .message ≡ messageIn by (saidIn by reading .kind) place (childOf reading)
   pub there : (n : Bytes) (p : Span) → place n ≡ Present p → ReadsAt s n (attributesOf (childOf reading)) p
   pub absent : (n : Bytes) → place n ≡ Absent → (v : Bytes) → Has n v (attributesOf (childOf reading)) → ⊥
+
+abbrev pub HandedOut : Bytes → Checked → Type 0
+HandedOut s r = HandedBy table s r

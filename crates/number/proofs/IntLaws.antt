@@ -1,52 +1,79 @@
--- `int-exact`: the steps of an Int say what the definition says. By induction on the bytes behind a sign, and behind digits.
+-- `int-exact`: the steps say of an Int what the definition says. By induction on the bytes behind a sign, behind digits and behind a point.
 use mathlib.Core.Path.{_≡_, refl, ap, _∙_}
 use mathlib.Core.Bool.{Bool, true, false}
 use mathlib.Core.List.{[], _∷_}
-use Prim.Native.Nat.{ℕ, _+_, _*_, min}
+use Prim.Native.Nat.{ℕ, _+_, _-_, _*_, min}
 use Prim.Native.Char.{code}
 use native.Mathlib.Omega.{arith}
 use lib.Dec.{eqb, ltb}
 use borrow.Author.Tests.{eqb-true, eqb-false, lt-ltb}
-use Rattle.number.specs.Bytes.{Bytes, pick, and, digit, figure, nonEmpty, all, trim, valueFrom}
+use Rattle.number.specs.Bytes.{Bytes, pick, and, digit, zeroDigit, figure, nonEmpty, all, trim, valueFrom}
 use Rattle.number.specs.Whole.{Whole, noInt, int, sized, signed, intOf, CAP, capped, paper}
-use Rattle.number.specs.Scan.{run, endsStep, inside, intDigit, intFirst, intBodyStep, sizedAs, intBodyEnd, intStep, intEnd, IntExact}
+use Rattle.number.specs.Scan.{TOP, run, joined, wholeDigit, partDigit, signStep, wholeStep, firstStep, bodyStep, sizedAs, intBodyEnd, intEnd, IntExact}
 use Rattle.number.specs.declared.whole.WholeRead.{WholeRead}
-use Rattle.number.specs.declared.ends.Ends.{Ends}
-use Rattle.number.specs.declared.whole.IntBody.{IntBody}
-use Rattle.number.specs.declared.whole.IntScan.{IntScan}
-use Rattle.number.proofs.Tests.{cases, and-false, and-true}
-use Rattle.number.proofs.Trim.{solid, body, trimmed, digits-solid, rest-blank, minus-solid, plus-solid}
+use Rattle.number.specs.declared.scan.Body.{Body}
+use Rattle.number.specs.declared.scan.Scan.{Scan}
+use Rattle.number.proofs.Tests.{cases, and-false, and-true, point-no-digit, joined-more}
+use Rattle.number.proofs.Trim.{solid, apart, trimmed, digits-solid, rest-blank, minus-solid, plus-solid}
 
-dead : (t : Bytes) → paper (intBodyEnd (run intBodyStep IntBody.Dead t)) ≡ noInt
-unfolding run intBodyStep intBodyEnd paper
+abbrev ended : Body → Bytes → Whole
+ended s t = paper (intBodyEnd (run bodyStep s t))
+
+dead : (t : Bytes) → ended Body.Dead t ≡ noInt
+unfolding run bodyStep intBodyEnd paper
 dead [] = refl
 dead (b ∷ t) = dead t
 
+-- behind a point it is no Int
+part : (n left : ℕ) (t : Bytes) → ended (Body.Part n left) t ≡ noInt
+unfolding run bodyStep partDigit intBodyEnd paper
+part n left [] = refl
+part n left (b ∷ t) =
+    cases (digit b)
+    (λ d. cases (ltb 0 left) (λ l. rw (d, l) (part (joined n b) (left - 1) t))
+    (λ l. cases (zeroDigit b) (λ z. rw (d, l, z) (part n 0 t)) (λ z. rw (d, l, z) (dead t))))
+    (λ d. rw d (dead t))
+
+point : (t : Bytes) → ended Body.Point t ≡ noInt
+unfolding run bodyStep intBodyEnd paper
+point [] = refl
+point (b ∷ t) = part 0 6 (b ∷ t)
+
 -- minus zero is zero
-end-digits : (minus : Bool) (n : ℕ) → paper (sizedAs minus (min CAP n)) ≡ capped (int (and minus (ltb 0 n)) n)
+end-digits : (minus : Bool) (n : ℕ) → paper (sizedAs minus (min TOP n)) ≡ capped (int (and minus (ltb 0 n)) n)
 unfolding paper sizedAs capped
 end-digits minus n =
-    cases (eqb (min CAP n) 0)
-    (λ h. let none : n ≡ 0 = omega (arith, eqb-true (min CAP n) 0 h) in rw (none, and-false minus))
-    (λ h. rw (h, lt-ltb 0 n (omega (arith, eqb-false (min CAP n) 0 h)), and-true minus))
-
-cap-more : (n d : ℕ) → min CAP (10 * min CAP n + d) ≡ min CAP (10 * n + d)
-cap-more n d = omega arith
+    let c : min CAP (min TOP n) ≡ min CAP n = omega arith in
+    cases (eqb (min TOP n) 0)
+    (λ h. let none : n ≡ 0 = omega (arith, eqb-true (min TOP n) 0 h) in rw (none, and-false minus))
+    (λ h. rw (h, c, lt-ltb 0 n (omega (arith, eqb-false (min TOP n) 0 h)), and-true minus))
 
 -- behind digits that write n
-digits : (minus : Bool) (n : ℕ) (t : Bytes) → paper (intBodyEnd (run intBodyStep (IntBody.Digits minus (min CAP n)) t)) ≡ capped (pick (all digit t) (int (and minus (ltb 0 (valueFrom n t))) (valueFrom n t)) noInt)
-unfolding run intBodyStep intBodyEnd intDigit paper capped all valueFrom
+digits : (minus : Bool) (n : ℕ) (t : Bytes) → ended (Body.Whole minus (min TOP n)) t ≡ capped (pick (all digit t) (int (and minus (ltb 0 (valueFrom n t))) (valueFrom n t)) noInt)
+unfolding run bodyStep intBodyEnd wholeStep wholeDigit paper capped all valueFrom
 digits minus n [] = end-digits minus n
-digits minus n (b ∷ t) = cases (digit b) (λ h. rw (h, cap-more n (figure b)) (digits minus (10 * n + figure b) t)) (λ h. rw h (dead t))
+digits minus n (b ∷ t) =
+    cases (eqb b (code ".")) (λ p. rw (p, point-no-digit b p) (behind minus))
+    (λ p. cases (digit b) (λ h. rw (p, h, joined-more n b) (digits minus (10 * n + figure b) t)) (λ h. rw (p, h) (dead t)))
+  where
+    behind : (m : Bool) → ended (pick m Body.Dead (Body.Part (min TOP n) 6)) t ≡ noInt
+    behind true = dead t
+    behind false = part (min TOP n) 6 t
 
 -- behind a sign
-behind-sign : (minus : Bool) (t : Bytes) → paper (intBodyEnd (run intBodyStep (IntBody.Signed minus) t)) ≡ capped (sized minus t)
-unfolding run intBodyStep intBodyEnd intDigit paper capped all nonEmpty valueFrom sized
+behind-sign : (minus : Bool) (t : Bytes) → ended (Body.Signed minus) t ≡ capped (sized minus t)
+unfolding run bodyStep intBodyEnd signStep wholeDigit paper capped all nonEmpty valueFrom sized
 behind-sign minus [] = refl
-behind-sign minus (b ∷ t) = cases (digit b) (λ h. rw h (digits minus (10 * 0 + figure b) t)) (λ h. rw h (dead t))
+behind-sign minus (b ∷ t) =
+    cases (eqb b (code ".")) (λ p. rw (p, point-no-digit b p) (behind minus))
+    (λ p. cases (digit b) (λ h. rw (p, h) (digits minus (10 * 0 + figure b) t)) (λ h. rw (p, h) (dead t)))
+  where
+    behind : (m : Bool) → ended (pick m Body.Dead Body.Point) t ≡ noInt
+    behind true = dead t
+    behind false = point t
 
-from-start : (t : Bytes) → paper (intBodyEnd (run intBodyStep IntBody.Start t)) ≡ capped (signed t)
-unfolding run intBodyStep intBodyEnd intFirst paper capped signed
+from-start : (t : Bytes) → ended Body.Start t ≡ capped (signed t)
+unfolding run bodyStep intBodyEnd firstStep paper capped signed
 from-start [] = refl
 from-start (b ∷ t) =
     cases (eqb b (code "-")) (λ h. rw h (behind-sign true t))
@@ -64,12 +91,6 @@ blank-signed (b ∷ t) h =
     cases (eqb b (code "-")) (λ e. rw e (blank-sized true t (rest-blank b t (minus-solid b e) h)))
     (λ n. cases (eqb b (code "+")) (λ e. rw (n, e) (blank-sized false t (rest-blank b t (plus-solid b e) h))) (λ m. rw (n, m) (blank-sized false (b ∷ t) h)))
 
--- the scan is the two parts of its record, each after the same bytes
-apart : (e : Ends) (s : IntBody) (w : Bytes) → run intStep (record { ends = e; body = s }) w ≡ record { ends = run endsStep e w; body = body intBodyStep e s w }
-unfolding run intStep body
-apart e s [] = refl
-apart e s (b ∷ w) = apart (endsStep e b) (pick (inside (endsStep e b)) (intBodyStep s b) s) w
-
 paper-pick : (t : Bool) (r : WholeRead) → paper (pick t r WholeRead.Bad) ≡ pick t (paper r) noInt
 unfolding paper
 paper-pick true r = refl
@@ -82,8 +103,8 @@ clear t = cases (all solid t) (λ h. rw h) (λ h. rw (h, blank-signed t h))
 pub int-exact : IntExact
 unfolding intEnd intOf
 int-exact w =
-    ap (λ (s : IntScan). paper (intEnd s)) (apart Ends.Front IntBody.Start w)
-    ∙ ap paper (trimmed intBodyStep WholeRead.Bad intBodyEnd IntBody.Start w)
-    ∙ paper-pick (all solid (trim w)) (intBodyEnd (run intBodyStep IntBody.Start (trim w)))
+    ap (λ (s : Scan). paper (intEnd s)) (apart w)
+    ∙ ap paper (trimmed bodyStep WholeRead.Bad intBodyEnd Body.Start w)
+    ∙ paper-pick (all solid (trim w)) (intBodyEnd (run bodyStep Body.Start (trim w)))
     ∙ ap (λ (x : Whole). pick (all solid (trim w)) x noInt) (from-start (trim w))
     ∙ clear (trim w)

@@ -8,4 +8,5 @@ pub mod VersionLaws
 pub mod Theorems
 pub mod Picks
 pub mod Classes
+pub mod Cases
 pub mod CodeLaws

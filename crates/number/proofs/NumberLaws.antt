@@ -1,26 +1,23 @@
--- `number-exact`: the steps of a positive number say what the definition says. `tail k n g` is the answer behind the point, with k places
+-- `number-exact`: the steps say of a positive number what the definition says. `tail k n g` is the answer behind the point, with k places
 -- left and n written so far; it is shown equal to the steps (induction on the bytes left), and to the definition (induction on the digits).
 use mathlib.Core.Path.{_≡_, refl, sym, ap, _∙_}
 use mathlib.Core.Bool.{Bool, true, false}
 use mathlib.Core.List.{[], _∷_, _++_}
-use Prim.Native.Nat.{ℕ, zero, suc, _+_, _-_, _*_, _^_, _≤_, _<_}
+use Prim.Native.Nat.{ℕ, zero, suc, _+_, _-_, _*_, _^_, _≤_, _<_, min}
 use Prim.Native.Char.{code}
 use native.Mathlib.Omega.{arith}
-use native.Mathlib.Nat.{add-mul, le-mul-of-pos-right, mul-le-mul-right, mul-lt-mul-of-pos-right, mul-assoc, pow-le-pow-right}
-use native.Mathlib.Numerals.{add-one}
+use native.Mathlib.Nat.{add-mul, le-mul-of-pos-right, mul-lt-mul-of-pos-right, mul-assoc}
 use lib.Pow.{pow-add}
 use lib.Dec.{eqb, leb, ltb, leb·suc-suc, leb·suc-zero, leb·zero}
 use lib.ListN.{length}
-use borrow.Author.Tests.{eqb-true, eqb-false, lt-ltb, le-ltb, ltb-true, ltb-false, leb-true, le-leb, lt-leb}
+use borrow.Author.Tests.{eqb-true, lt-ltb, le-ltb, ltb-true, ltb-false, leb-true}
 use Rattle.number.specs.Bytes.{Bytes, pick, and, digit, zeroDigit, figure, nonEmpty, all, trim, dropFront, dropBack, keepBefore, valueFrom, value, before, behind}
 use Rattle.number.specs.Positive.{Number, noNumber, number, written, short, millionths, above, decimal, unsigned, parted, numberOf, numberRead, NumberRange}
-use Rattle.number.specs.Scan.{run, endsStep, inside, TOP, ZEROS, PLACES, joined, zeroMore, grown, beforeAs, afterAs, wholeDigit, partDigit, plusStep, startStep, beforeStep, numberBodyStep, limited, worth, numberBodyEnd, numberStep, numberEnd, NumberExact}
-use Rattle.number.specs.declared.ends.Ends.{Ends}
-use Rattle.number.specs.declared.positive.Grown.{Grown}
-use Rattle.number.specs.declared.positive.NumberBody.{NumberBody}
-use Rattle.number.proofs.Tests.{cases, never, and-left, and-right, and-false}
-use Rattle.number.proofs.Trim.{solid, body, trimmed, digits-solid, rest-blank, plus-solid, point-solid, digit-solid}
-use Rattle.number.proofs.Powers.{ten-pos, shift, in-front, front-le, value-lt, few}
+use Rattle.number.specs.Scan.{TOP, run, joined, wholeDigit, partDigit, signStep, wholeStep, firstStep, bodyStep, limited, unsignedEnd, numberBodyEnd, numberEnd, NumberExact}
+use Rattle.number.specs.declared.scan.Body.{Body}
+use Rattle.number.proofs.Tests.{cases, never, and-left, and-right, and-false, joined-more}
+use Rattle.number.proofs.Trim.{solid, apart, trimmed, digits-solid, rest-blank, plus-solid, point-solid, digit-solid}
+use Rattle.number.proofs.Powers.{ten-pos, shift, in-front, value-lt, few}
 
 -- the answer behind the point
 unfoldable tail : ℕ → ℕ → Bytes → Number
@@ -28,152 +25,59 @@ tail k n [] = limited (n * 10 ^ k)
 tail zero n (b ∷ g) = pick (digit b) (pick (zeroDigit b) (tail zero n g) noNumber) noNumber
 tail (suc k) n (b ∷ g) = pick (digit b) (tail k (10 * n + figure b) g) noNumber
 
-limited-big : (m : ℕ) → 10 ^ 13 ≤ m → limited m ≡ noNumber
-unfolding limited
-limited-big m h = rw (le-ltb m (10 ^ 13) h, and-false (ltb 0 m))
-
--- a number of more than 13 digits stays none
-tail-big : (k n : ℕ) (g : Bytes) → 10 ^ 13 ≤ n → tail k n g ≡ noNumber
-unfolding tail
-tail-big k n [] h = limited-big (n * 10 ^ k) (let l : n ≤ n * 10 ^ k = le-mul-of-pos-right n (ten-pos k) in omega arith)
-tail-big zero n (b ∷ g) h =
-    cases (digit b) (λ d. cases (zeroDigit b) (λ z. rw (d, z) (tail-big zero n g h)) (λ z. rw (d, z))) (λ d. rw d)
-tail-big (suc k) n (b ∷ g) h =
-    cases (digit b) (λ d. rw d (tail-big k (10 * n + figure b) g (omega arith))) (λ d. rw d)
-
 -- the answer of the steps from a state
-abbrev ended : NumberBody → Bytes → Number
-ended s t = numberBodyEnd (run numberBodyStep s t)
+abbrev ended : Body → Bytes → Number
+ended s t = numberBodyEnd (run bodyStep s t)
 
-dead : (t : Bytes) → ended NumberBody.Dead t ≡ noNumber
-unfolding run numberBodyStep numberBodyEnd
+dead : (t : Bytes) → ended Body.Dead t ≡ noNumber
+unfolding run bodyStep numberBodyEnd
 dead [] = refl
 dead (b ∷ t) = dead t
 
--- one more digit: the number written so far grows by it, or has too many digits to be one
-data Grew : ℕ → Grown → Type 0 where
-  to : {m n z : ℕ} → n * 10 ^ z ≡ m → Grew m (Grown.To n z)
-  lost : {m : ℕ} → 10 ^ 13 ≤ m → Grew m Grown.Lost
+-- a number that was cut at the top is none, as it was
+limited-big : (k m : ℕ) → TOP ≤ m → limited (m * 10 ^ k) ≡ noNumber
+unfolding limited
+limited-big k m h = let l : m ≤ m * 10 ^ k = le-mul-of-pos-right m (ten-pos k) in rw (le-ltb (m * 10 ^ k) TOP (omega arith), and-false (ltb 0 (m * 10 ^ k)))
 
-far-big : (n z : ℕ) → 0 < n → 13 ≤ z → 10 ^ 13 ≤ n * 10 ^ z
-far-big n z h l =
-    let more : 10 ^ 13 ≤ 10 ^ z = pow-le-pow-right (omega arith) l in
-    let own : 1 * 10 ^ z ≤ n * 10 ^ z = mul-le-mul-right (10 ^ z) h in
-    omega arith
+limited-cut : (k n : ℕ) → limited (min TOP n * 10 ^ k) ≡ limited (n * 10 ^ k)
+limited-cut k n =
+    cases (ltb n TOP) (λ h. ap (λ (m : ℕ). limited (m * 10 ^ k)) (let l : n < TOP = ltb-true n TOP h in omega arith))
+    (λ h. let l : TOP ≤ n = ltb-false n TOP h in limited-big k (min TOP n) (omega arith) ∙ sym (limited-big k n l))
 
-joined-is : (n z b : ℕ) → joined n z b ≡ 10 * (n * 10 ^ z) + figure b
-joined-is n z b = ap (λ (y : ℕ). n * 10 ^ y + figure b) (add-one z) ∙ ap (λ (y : ℕ). y + figure b) (shift n z ∙ mul-assoc 10 n (10 ^ z))
+-- the steps behind the point, with k places left
+after : (k n : ℕ) (g : Bytes) → ended (Body.Part (min TOP n) k) g ≡ tail k n g
+unfolding run bodyStep numberBodyEnd partDigit tail
+after k n [] = limited-cut k n
+after zero n (b ∷ g) =
+    cases (digit b) (λ d. cases (zeroDigit b) (λ z. rw (d, z) (after zero n g)) (λ z. rw (d, z) (dead g))) (λ d. rw d (dead g))
+after (suc k) n (b ∷ g) =
+    let one : suc k - 1 ≡ k = omega arith in
+    cases (digit b) (λ d. rw (d, lt-ltb 0 (suc k) (omega arith), joined-more n b, one) (after k (10 * n + figure b) g)) (λ d. rw d (dead g))
 
-all-zero : (n z b : ℕ) → n ≡ 0 → b ≡ 48 → 0 * 10 ^ 0 ≡ 10 * (n * 10 ^ z) + figure b
-all-zero n z b e o = rw (e, o) (omega arith)
+-- the steps behind digits before the point, which write n
+whole : (n : ℕ) (u : Bytes) → ended (Body.Whole false (min TOP n)) u ≡ pick (all digit (before u)) (tail 6 (valueFrom n (before u)) (behind u)) noNumber
+unfolding run bodyStep numberBodyEnd unsignedEnd wholeStep wholeDigit tail all before behind valueFrom
+whole n [] = limited-cut 6 n
+whole n (b ∷ u) =
+    cases (eqb b (code ".")) (λ p. rw p (after 6 n u))
+    (λ p. cases (digit b) (λ d. rw (p, d, joined-more n b) (whole (10 * n + figure b) u)) (λ d. rw (p, d) (dead u)))
 
-grew : (n z b : ℕ) → Grew (10 * (n * 10 ^ z) + figure b) (grown n z b)
-unfolding grown zeroMore
-grew n z b =
-    let j : n * 10 ^ (z + 1) + figure b ≡ 10 * (n * 10 ^ z) + figure b = joined-is n z b in
-    cases (zeroDigit b)
-    (λ o. cases (eqb n 0) (λ e. rw (o, e) (to (all-zero n z b (eqb-true n 0 e) (eqb-true b 48 o))))
-    (λ e. cases (ltb z ZEROS)
-    (λ l.
-    let m : n * 10 ^ (z + 1) ≡ 10 * (n * 10 ^ z) + figure b = omega (arith, eqb-true b 48 o) in
-    rw (o, e, l) (to m))
-    (λ l.
-    let f : 10 ^ 13 ≤ n * 10 ^ z = far-big n z (omega (arith, eqb-false n 0 e)) (omega (arith, ltb-false z ZEROS l)) in
-    let m : 10 ^ 13 ≤ 10 * (n * 10 ^ z) + figure b = omega arith in
-    rw (o, e, l) (lost m))))
-    (λ o. cases (ltb (joined n z b) TOP)
-    (λ l.
-    let m : joined n z b * 10 ^ 0 ≡ 10 * (n * 10 ^ z) + figure b = omega arith in
-    rw (o, l) (to m))
-    (λ l.
-    let m : 10 ^ 13 ≤ 10 * (n * 10 ^ z) + figure b = omega (arith, ltb-false (joined n z b) TOP l) in
-    rw (o, l) (lost m)))
+-- behind a minus it is none
+below : (n : ℕ) (u : Bytes) → ended (Body.Whole true n) u ≡ noNumber
+unfolding run bodyStep numberBodyEnd unsignedEnd wholeStep wholeDigit
+below n [] = refl
+below n (b ∷ u) =
+    cases (eqb b (code ".")) (λ p. rw p (dead u)) (λ p. cases (digit b) (λ d. rw (p, d) (below (joined n b) u)) (λ d. rw (p, d) (dead u)))
 
--- behind the sixth place with a digit above zero: never whole in millionths again
-spent : (p n z : ℕ) (g : Bytes) → z + 6 < p → ended (NumberBody.After n z p) g ≡ noNumber
-unfolding run numberBodyStep numberBodyEnd partDigit grown zeroMore afterAs worth
-spent p n z [] h = rw (lt-leb p (z + 6) h)
-spent p n z (b ∷ g) h =
-    cases (digit b)
-    (λ d. cases (ltb p PLACES)
-    (λ l. cases (zeroDigit b)
-    (λ o. cases (eqb n 0) (λ e. rw (d, l, o, e) (spent (p + 1) 0 0 g (omega arith)))
-    (λ e. cases (ltb z ZEROS) (λ y. rw (d, l, o, e, y) (spent (p + 1) n (z + 1) g (omega arith))) (λ y. rw (d, l, o, e, y) (dead g))))
-    (λ o. cases (ltb (joined n z b) TOP) (λ y. rw (d, l, o, y) (spent (p + 1) (joined n z b) 0 g (omega arith))) (λ y. rw (d, l, o, y) (dead g))))
-    (λ l. cases (zeroDigit b) (λ o. rw (d, l, o) (spent p n z g h)) (λ o. rw (d, l, o) (dead g))))
-    (λ d. rw d (dead g))
+from-minus : (u : Bytes) → ended (Body.Signed true) u ≡ noNumber
+unfolding run bodyStep numberBodyEnd signStep wholeDigit
+from-minus [] = refl
+from-minus (b ∷ u) =
+    cases (eqb b (code ".")) (λ p. rw p (dead u)) (λ p. cases (digit b) (λ d. rw (p, d) (below (joined 0 b) u)) (λ d. rw (p, d) (dead u)))
 
--- nothing but zeros is none
-tail-none : (m : ℕ) (g : Bytes) → m ≡ 0 → tail 0 m g ≡ noNumber
-unfolding tail limited
-tail-none m [] h = rw h
-tail-none m (b ∷ g) h =
-    cases (digit b) (λ d. cases (zeroDigit b) (λ z. rw (d, z) (tail-none m g h)) (λ z. rw (d, z))) (λ d. rw d)
-
--- the steps behind the sixth place, with only zeros there so far
-beyond : (p n z : ℕ) (g : Bytes) → 6 ≤ p → p ≤ z + 6 → ended (NumberBody.After n z p) g ≡ tail 0 (n * 10 ^ (z + 6 - p)) g
-unfolding run numberBodyStep numberBodyEnd partDigit grown zeroMore afterAs worth tail
-beyond p n z [] f h = rw (le-leb p (z + 6) h) (ap limited (omega arith))
-beyond p n z (b ∷ g) f h =
-    cases (digit b)
-    (λ d. cases (ltb p PLACES)
-    (λ l. cases (zeroDigit b)
-    (λ o. cases (eqb n 0)
-    (λ e. rw (d, l, o, e) (spent (p + 1) 0 0 g (omega arith) ∙ sym (tail-none (n * 10 ^ (z + 6 - p)) g (rw (eqb-true n 0 e) (omega arith)))))
-    (λ e. cases (ltb z ZEROS)
-    (λ y.
-    let same : z + 1 + 6 - (p + 1) ≡ z + 6 - p = omega arith in
-    rw (d, l, o, e, y) (beyond (p + 1) n (z + 1) g (omega arith) (omega arith) ∙ ap (λ (x : ℕ). tail 0 (n * 10 ^ x) g) same))
-    (λ y. rw (d, l, o, e, y)
-    (dead g ∙ sym (tail-big 0 (n * 10 ^ (z + 6 - p)) g (far-big n (z + 6 - p) (omega (arith, eqb-false n 0 e)) (omega (arith, ltb-false z ZEROS y, ltb-true p PLACES l))))))))
-    (λ o. cases (ltb (joined n z b) TOP) (λ y. rw (d, l, o, y) (spent (p + 1) (joined n z b) 0 g (omega arith))) (λ y. rw (d, l, o, y) (dead g))))
-    (λ l. cases (zeroDigit b) (λ o. rw (d, l, o) (beyond p n z g f h)) (λ o. rw (d, l, o) (dead g))))
-    (λ d. rw d (dead g))
-
-after-grown : (k p m : ℕ) (x : Grown) (g : Bytes) → Grew m x → ((n z : ℕ) → ended (NumberBody.After n z p) g ≡ tail k (n * 10 ^ z) g) → ended (afterAs p x) g ≡ tail k m g
-unfolding afterAs
-after-grown k p m (Grown.To n z) g (to e) rest = rest n z ∙ ap (λ (y : ℕ). tail k y g) e
-after-grown k p m Grown.Lost g (lost l) rest = dead g ∙ sym (tail-big k m g l)
-
--- the steps behind the point, with p places used and k left
-after : (k p n z : ℕ) (g : Bytes) → p + k ≡ 6 → ended (NumberBody.After n z p) g ≡ tail k (n * 10 ^ z) g
-unfolding run numberBodyStep numberBodyEnd partDigit worth tail
-after k p n z [] e =
-    let used : z + 6 - p ≡ z + k = omega arith in
-    let spread : n * 10 ^ (z + 6 - p) ≡ n * 10 ^ z * 10 ^ k = ap (λ (y : ℕ). n * 10 ^ y) used ∙ ap (λ (y : ℕ). n * y) (pow-add 10 z k) ∙ sym (mul-assoc n (10 ^ z) (10 ^ k)) in
-    rw (le-leb p (z + 6) (omega arith)) (ap limited spread)
-after zero p n z (b ∷ g) e =
-    let used : z + 6 - p ≡ z = omega arith in
-    beyond p n z (b ∷ g) (omega arith) (omega arith) ∙ ap (λ (y : ℕ). tail 0 (n * 10 ^ y) (b ∷ g)) used
-after (suc k) p n z (b ∷ g) e =
-    let room : ltb p PLACES ≡ true = lt-ltb p PLACES (omega arith) in
-    cases (digit b)
-    (λ d. rw (d, room) (after-grown k (p + 1) (10 * (n * 10 ^ z) + figure b) (grown n z b) g (grew n z b) (λ n' z'. after k (p + 1) n' z' g (omega arith))))
-    (λ d. rw d (dead g))
-
--- the answer behind digits before the point, which write m
-abbrev headed : ℕ → Bytes → Number
-headed m u = pick (all digit (before u)) (tail 6 (valueFrom m (before u)) (behind u)) noNumber
-
-headed-big : (m : ℕ) (u : Bytes) → 10 ^ 13 ≤ m → headed m u ≡ noNumber
-headed-big m u h =
-    let l : m ≤ valueFrom m (before u) = front-le m (before u) in
-    cases (all digit (before u)) (λ d. rw d (tail-big 6 (valueFrom m (before u)) (behind u) (omega arith))) (λ d. rw d)
-
-before-grown : (m : ℕ) (x : Grown) (u : Bytes) → Grew m x → ((n z : ℕ) → ended (NumberBody.Before n z) u ≡ headed (n * 10 ^ z) u) → ended (beforeAs x) u ≡ headed m u
-unfolding beforeAs
-before-grown m (Grown.To n z) u (to e) rest = rest n z ∙ ap (λ (y : ℕ). headed y u) e
-before-grown m Grown.Lost u (lost l) rest = dead u ∙ sym (headed-big m u l)
-
--- the steps behind digits before the point
-whole : (n z : ℕ) (u : Bytes) → ended (NumberBody.Before n z) u ≡ headed (n * 10 ^ z) u
-unfolding run numberBodyStep numberBodyEnd beforeStep wholeDigit all before behind valueFrom
-whole n z [] = after 6 0 n z [] refl
-whole n z (b ∷ u) =
-    cases (eqb b (code ".")) (λ p. rw p (after 6 0 n z u refl))
-    (λ p. cases (digit b)
-    (λ d. rw (p, d) (before-grown (10 * (n * 10 ^ z) + figure b) (grown n z b) u (grew n z b) (λ n' z'. whole n' z' u)))
-    (λ d. rw (p, d) (dead u)))
+minus-parted : (b : ℕ) (u : Bytes) → eqb b (code "-") ≡ true → noNumber ≡ parted (unsigned (b ∷ u))
+unfolding unsigned parted decimal written before behind all digit
+minus-parted b u h = rw (eqb-true b (code "-") h)
 
 -- what is left of the digits behind the point, and its value with k places
 abbrev cut : Bytes → Bytes
@@ -284,23 +188,24 @@ decimal-tail f g s =
     (λ dg. rw (df, tail-fits 6 (value f) g, dg)))
     (λ df. rw df)
 
-from-point : (u : Bytes) → ended NumberBody.Point u ≡ decimal [] u
-unfolding run numberBodyStep numberBodyEnd decimal written all nonEmpty valueFrom
+from-point : (u : Bytes) → ended Body.Point u ≡ decimal [] u
+unfolding run bodyStep numberBodyEnd decimal written all nonEmpty valueFrom
 from-point [] = refl
-from-point (b ∷ u) = after 6 0 0 0 (b ∷ u) refl ∙ decimal-tail [] (b ∷ u) refl
+from-point (b ∷ u) = after 6 0 (b ∷ u) ∙ decimal-tail [] (b ∷ u) refl
 
-from-plus : (u : Bytes) → ended NumberBody.Plus u ≡ parted u
-unfolding run numberBodyStep numberBodyEnd plusStep beforeStep parted decimal written all nonEmpty before behind
+from-plus : (u : Bytes) → ended (Body.Signed false) u ≡ parted u
+unfolding run bodyStep numberBodyEnd signStep wholeStep parted decimal written all nonEmpty before behind
 from-plus [] = refl
 from-plus (b ∷ u) =
     cases (eqb b (code ".")) (λ p. rw p (from-point u))
-    (λ p. rw p (rw p at (whole 0 0 (b ∷ u)) ∙ decimal-tail (b ∷ before u) (behind u) refl))
+    (λ p. rw p (rw p at (whole 0 (b ∷ u)) ∙ decimal-tail (b ∷ before u) (behind u) refl))
 
-from-start : (t : Bytes) → ended NumberBody.Start t ≡ parted (unsigned t)
-unfolding run numberBodyStep numberBodyEnd startStep unsigned
+from-start : (t : Bytes) → ended Body.Start t ≡ parted (unsigned t)
+unfolding run bodyStep numberBodyEnd firstStep unsigned
 from-start [] = from-plus []
 from-start (b ∷ t) =
-    cases (eqb b (code "+")) (λ p. rw p (from-plus t)) (λ p. rw p (from-plus (b ∷ t)))
+    cases (eqb b (code "-")) (λ m. rw m (from-minus t) ∙ minus-parted b t m)
+    (λ m. cases (eqb b (code "+")) (λ p. rw (m, p) (from-plus t)) (λ p. rw (m, p) (from-plus (b ∷ t))))
 
 -- a blank among the bytes is no digit, no point and no plus
 blank-parts : (u : Bytes) → all solid u ≡ false → and (all digit (before u)) (all digit (behind u)) ≡ false
@@ -328,18 +233,12 @@ blank-unsigned (b ∷ t) h =
 clear : (t : Bytes) → pick (all solid t) (parted (unsigned t)) noNumber ≡ parted (unsigned t)
 clear t = cases (all solid t) (λ h. rw h) (λ h. rw (h, blank-unsigned t h))
 
--- the scan is the two parts of its record, each after the same bytes
-apart : (e : Ends) (s : NumberBody) (w : Bytes) → run numberStep (record { ends = e; body = s }) w ≡ record { ends = run endsStep e w; body = body numberBodyStep e s w }
-unfolding run numberStep body
-apart e s [] = refl
-apart e s (b ∷ w) = apart (endsStep e b) (pick (inside (endsStep e b)) (numberBodyStep s b) s) w
-
 pub number-exact : NumberExact
 unfolding numberEnd numberOf
 number-exact w =
-    ap numberEnd (apart Ends.Front NumberBody.Start w)
+    ap numberEnd (apart w)
     ∙ ap numberRead
-    (trimmed numberBodyStep noNumber numberBodyEnd NumberBody.Start w
+    (trimmed bodyStep noNumber numberBodyEnd Body.Start w
     ∙ ap (λ (x : Number). pick (all solid (trim w)) x noNumber) (from-start (trim w))
     ∙ clear (trim w))
 

@@ -4,7 +4,7 @@ use mathlib.Core.Bool.{true, false}
 use mathlib.Core.List.{[], _∷_}
 use Prim.Native.Nat.{ℕ, zero, suc, _+_, _*_, _^_, _≤_, _<_}
 use native.Mathlib.Omega.{arith}
-use native.Mathlib.Nat.{pow-succ', mul-assoc, mul-comm, add-mul, mul-le-mul-right, le-mul-of-pos-right, pow-le-pow-right}
+use native.Mathlib.Nat.{pow-succ', mul-assoc, mul-comm, add-mul, mul-le-mul-right, pow-le-pow-right}
 use lib.Dec.{leb, ltb}
 use lib.ListN.{length}
 use borrow.Author.Tests.{eqb-true, eqb-false, leb-true, leb-false, lt-ltb, le-ltb}
@@ -29,10 +29,6 @@ in-front n (b ∷ s) =
     let apart : (10 * n + figure b) * 10 ^ length s ≡ (10 * n) * 10 ^ length s + figure b * 10 ^ length s = add-mul (10 * n) (figure b) (10 ^ length s) in
     let moved : n * 10 ^ suc (length s) ≡ (10 * n) * 10 ^ length s = shift n (length s) in
     omega arith
-
--- digits in front count at least what they count alone
-pub front-le : (n : ℕ) (s : Bytes) → n ≤ valueFrom n s
-front-le n s = rw (in-front n s) (let h : n ≤ n * 10 ^ length s = le-mul-of-pos-right n (ten-pos (length s)) in omega arith)
 
 -- so many digits write less than that power of ten
 pub value-lt : (s : Bytes) → all digit s ≡ true → value s < 10 ^ length s

@@ -1,11 +1,13 @@
 -- Small laws of tests and of bytes: what the test of a class says, and a definition that picks its case, met by what tests showed.
 use mathlib.Core.Path.{_≡_, refl, sym, _∙_}
 use mathlib.Core.Bool.{Bool, true, false}
-use Prim.Native.Nat.{ℕ, _≤_}
+use Prim.Native.Nat.{ℕ, _≤_, min}
+use Prim.Native.Char.{code}
 use native.Mathlib.Omega.{arith}
-use lib.Dec.{leb}
-use borrow.Author.Tests.{leb-true, ne-eqb, lt-leb}
+use lib.Dec.{eqb, leb}
+use borrow.Author.Tests.{leb-true, eqb-true, ne-eqb, lt-leb}
 use Rattle.number.specs.Bytes.{and, blank, digit}
+use Rattle.number.specs.Scan.{TOP, joined}
 
 -- a value by the two cases of a test
 pub cases : {P : Type 0} (t : Bool) → (t ≡ true → P) → (t ≡ false → P) → P
@@ -44,3 +46,11 @@ unfolding blank
 digit-no-blank b h =
     let low : 48 ≤ b = digit-low b h in
     rw (lt-leb b 10 (omega arith), and-false (leb 9 b), ne-eqb b 13 (λ e. omega arith), ne-eqb b 32 (λ e. omega arith))
+
+pub point-no-digit : (b : ℕ) → eqb b (code ".") ≡ true → digit b ≡ false
+unfolding digit
+point-no-digit b h = rw (eqb-true b (code ".") h)
+
+-- a number that was cut at the top, with one more digit
+pub joined-more : (n b : ℕ) → joined (min TOP n) b ≡ joined n b
+joined-more n b = omega arith

@@ -1,4 +1,4 @@
--- The theorems of the crate, for a reader to find: exactness of the four readings, the law of one more byte, the range of a number, that no
+-- The theorems of the crate, for a reader to find: exactness of the scan, the law of one more byte, the range of a number, that no
 -- second answer meets a promise, and the bench table.
 use mathlib.Core.Path.{_≡_, refl, sym, _∙_}
 use mathlib.Core.Bool.{Bool}
@@ -11,13 +11,11 @@ use Rattle.number.specs.Positive.{written, short, above, millionths, dec
 use Rattle.number.specs.Guid.{guidOf}
 use Rattle.number.specs.Version.{versionOf}
 use Rattle.number.specs.Bench.{Bench, bench}
-use Rattle.number.specs.Scan.{run, ScannedMore, ScannedOn, IntExact, NumberExact, GuidExact, VersionExact}
+use Rattle.number.specs.Scan.{run, ScannedMore, ScannedOn, IntExact, NumberExact}
 use Rattle.number.specs.declared.whole.WholeRead.{WholeRead}
 use Rattle.number.specs.declared.positive.NumberRead.{NumberRead}
 use Rattle.number.proofs.IntLaws as int-laws
 use Rattle.number.proofs.NumberLaws as number-laws
-use Rattle.number.proofs.GuidLaws as guid-laws
-use Rattle.number.proofs.VersionLaws as version-laws
 
 -- the state after the bytes w then b is the step by b of the state after w
 pub scanned-more : ScannedMore
@@ -36,12 +34,6 @@ int-exact = int-laws.int-exact
 
 pub number-exact : NumberExact
 number-exact = number-laws.number-exact
-
-pub guid-exact : GuidExact
-guid-exact = guid-laws.guid-exact
-
-pub version-exact : VersionExact
-version-exact = version-laws.version-exact
 
 -- two answers that say the same are the same
 pub paper-injective : (r q : WholeRead) → paper r ≡ paper q → r ≡ q

@@ -8,8 +8,9 @@ use Prim.Native.Char.{code}
 use lib.Dec.{eqb}
 use borrow.Author.Tests.{eqb-true}
 use Rattle.number.specs.Bytes.{Bytes, pick, blank, digit, nonEmpty, all, dropFront, dropBack, keepBefore, trim}
-use Rattle.number.specs.Scan.{run, endsStep, inside, broken}
+use Rattle.number.specs.Scan.{run, endsStep, inside, broken, bodyStep, start, step}
 use Rattle.number.specs.declared.ends.Ends.{Ends}
+use Rattle.number.specs.declared.scan.Body.{Body}
 use Rattle.number.proofs.Tests.{cases, digit-no-blank}
 
 -- no blank
@@ -48,6 +49,15 @@ digits-solid (b ∷ t) h =
 unfoldable pub body : {S : Type 0} → (S → ℕ → S) → Ends → S → Bytes → S
 body f e s [] = s
 body f e s (b ∷ w) = body f (endsStep e b) (pick (inside (endsStep e b)) (f s b) s) w
+
+-- the scan is the two parts of its record, each after the same bytes
+pub apart : (w : Bytes) → run step start w ≡ record { ends = run endsStep Ends.Front w; body = body bodyStep Ends.Front Body.Start w }
+unfolding run step body
+apart w = from Ends.Front Body.Start w
+  where
+    from : (e : Ends) (s : Body) (w : Bytes) → run step (record { ends = e; body = s }) w ≡ record { ends = run endsStep e w; body = body bodyStep e s w }
+    from e s [] = refl
+    from e s (b ∷ w) = from (endsStep e b) (pick (inside (endsStep e b)) (bodyStep s b) s) w
 
 module _ {S R : Type 0} (f : S → ℕ → S) (bad : R) (fin : S → R) where
   -- the answer after bytes

@@ -39,10 +39,8 @@ impl Ends {
         ensures { λ r. ⌜ r ≡ inside self ⌝ }
     {
         match self {
-            Ends::Front => false,
             Ends::Inside => true,
-            Ends::Behind => false,
-            Ends::Broken => false,
+            _ => false,
         }
     }
 
@@ -50,10 +48,8 @@ impl Ends {
         ensures { λ r. ⌜ r ≡ broken self ⌝ }
     {
         match self {
-            Ends::Front => false,
-            Ends::Inside => false,
-            Ends::Behind => false,
             Ends::Broken => true,
+            _ => false,
         }
     }
 }

@@ -1,30 +1,50 @@
 -- What is handed out of a message is what its reading says.
 use mathlib.Core.Path.{_≡_, refl, sym, ap, subst, _∙_}
-use mathlib.Core.List.{List}
+use mathlib.Core.List.{List, _∷_, _++_}
 use Prim.Native.Nat.{ℕ, _-_, _*_}
 use native.Mathlib.Omega.{arith}
-use lib.ListN.{length, drop}
+use lib.ListN.{length, drop, replicate, length-replicate}
 use Rattle.grammar.specs.Bytes.{Bytes}
 use Rattle.grammar.specs.Message.{readLayout}
-use Rattle.table.specs.Table.{rowsOf}
-use Rattle.table.specs.Says.{childOf, saidOf}
-use Rattle.message.specs.Fields.{messageFrom, blank}
-use Rattle.message.specs.Cells.{fieldsFrom}
+use Rattle.table.specs.Table.{Row, rowsOf}
+use Rattle.table.specs.Says.{refusalOf, childOf, saidOf}
+use Rattle.table.specs.Theorems.{rows-table}
+use Rattle.value.specs.Ids.{noId}
+use Rattle.message.specs.Fields.{Field, fieldsIn, messageFrom, blank}
+use Rattle.message.specs.Cells.{NUMBERS, fieldsFrom, cellsOf, numbersOf, messageBy, idCell, idBy, Told}
 use Rattle.message.specs.Checked.{placesIn, messageOf, Checks, ends as endsSo, more as moreSo, malformed as malformedSo, too-long as tooLongSo}
 use Rattle.message.specs.declared.checking.Checked.{Checked}
 use Rattle.message.specs.declared.kinds.Message.{Message}
-use Rattle.message.proofs.MessageLaws.{is-refused, is-accepted}
-use Rattle.reads.specs.Whole.{outcomeOf, CellsChecked, ends, more, malformed, too-long}
-use Rattle.reads.specs.Ids.{IdIn}
+use Rattle.message.proofs.MessageLaws.{message-table, is-refused, is-accepted}
+use Rattle.structs.proofs.KindLaws.{fields-of, id-of-cells, blank-is, blank-told}
+use Rattle.reads.specs.Whole.{outcomeOf, CellsChecked, ends, more, malformed, too-long, ChecksInto}
+use Rattle.reads.specs.Ids.{TakesId}
+use Rattle.reads.specs.declared.checking.Found.{Found}
 use Rattle.reads.specs.declared.whole.Outcome.{Outcome}
-use Rattle.reads.proofs.HandLaws.{all-fields}
+use Rattle.reads.proofs.HandLaws.{AsFields, as-fields}
+
+abbrev pub foundBy : Outcome → Bytes → Found
+foundBy o id = record { refusal = o .refusal; kind = o .kind; start = o .start; end = o .end; place = o .place; id = id }
 
 abbrev pub answeredBy : Outcome → Message → Checked
 answeredBy o m = record { refusal = o .refusal; start = o .start; end = o .end; place = o .place; message = m }
 
 -- a message that is not refused
-pub check-accepted : {s : Bytes} {before after : List ℕ} {o : Outcome} {id : Bytes} {m : Message} {r : Checked} → CellsChecked s before after o → o .refusal ≡ 0 → IdIn s (o .kind) after id → m ≡ messageFrom (o .kind) (fieldsFrom (rowsOf (o .kind)) 0 after id) → r ≡ answeredBy o m → Checks s r
-check-accepted {s} {before} {after} {o} {id} {m} {r} (ends start end p l w e c) z i q h = endsSo start end p l w (h ∙ ap (answeredBy o) (q ∙ said) ∙ ap (λ (o : Outcome). answeredBy o (messageOf k (placesIn start l) (childOf (readLayout l)))) e ∙ is-accepted (saidOf (readLayout l) .refusal) start end k (messageOf k (placesIn start l) (childOf (readLayout l))) refused)
+abbrev zeros : List ℕ
+zeros = replicate NUMBERS 0
+
+pub all-cells : {cells : List ℕ} → cells ≡ zeros → length cells ≡ NUMBERS
+all-cells e = ap length e ∙ length-replicate {A = ℕ} NUMBERS 0
+
+pub cleared-so : (n : ℕ) {told : List ℕ} → told ≡ replicate n 0 → n ≡ NUMBERS → told ≡ zeros
+cleared-so n e h = e ∙ ap (λ (n : ℕ). replicate n 0) h
+
+accepted-told : (k : ℕ) (fields : List Field) (after : List ℕ) (id : Bytes) → after ≡ cellsOf fields ++ drop (3 * length (rowsOf k)) zeros → length (cellsOf fields) ≡ 3 * length (rowsOf k) → fieldsFrom (rowsOf k) 0 after id ≡ fields → id ≡ idBy (idCell k) after id → Told k after id
+unfolding numbersOf messageFrom
+accepted-told k fields after id a n f i = record { numbers = ap (λ (l : List ℕ). k ∷ l) (a ∙ ap (λ (n : ℕ). cellsOf fields ++ drop n zeros) (sym n) ∙ sym (ap (λ (x : List Field). cellsOf x ++ drop (length (cellsOf x)) zeros) (fields-of after id k ∙ f))); named = i ∙ sym (id-of-cells after id k) }
+
+pub into-accepted : {s : Bytes} {before after told : List ℕ} {o : Outcome} {id : Bytes} {r : Found} → before ≡ zeros → CellsChecked s before after o → o .refusal ≡ 0 → TakesId s (idCell (o .kind)) after told id → r ≡ foundBy o id → length told ≡ NUMBERS → ChecksInto s told r
+into-accepted {s} {before} {after} {told} {o} {id} {r} b (ends start end p l w e c) z i h n = subst (λ (r : Found). ChecksInto s told r) (sym h) (record { checks = checks-so; told = subst (λ (k : ℕ). Told k told id) (sym kind) told-so; long = n })
   where
     k : ℕ
     k = saidOf (readLayout l) .kind
@@ -35,16 +55,26 @@ check-accepted {s} {before} {after} {o} {id} {m} {r} (ends start end p l w e c) 
     kind : o .kind ≡ k
     kind = ap (λ (o : Outcome). o .kind) e
 
-    said : messageFrom (o .kind) (fieldsFrom (rowsOf (o .kind)) 0 after id) ≡ messageOf k (placesIn start l) (childOf (readLayout l))
-    said =
-        ap (λ (k : ℕ). messageFrom k (fieldsFrom (rowsOf k) 0 after id)) kind
-        ∙ ap (messageFrom k) (all-fields s start end l w after id k (drop (3 * length (rowsOf k)) before) c refused (subst (λ (k : ℕ). IdIn s k after id) kind i))
-check-accepted (more start p e c) z i q h = absurd (let y = sym (ap (λ (o : Outcome). o .refusal) e) ∙ z in omega arith)
-check-accepted (malformed start place p e c) z i q h = absurd (let y = sym (ap (λ (o : Outcome). o .refusal) e) ∙ z in omega arith)
-check-accepted (too-long start p e c) z i q h = absurd (let y = sym (ap (λ (o : Outcome). o .refusal) e) ∙ z in omega arith)
+    t : TakesId s (idCell k) after told id
+    t = subst (λ (k : ℕ). TakesId s (idCell k) after told id) kind i
+
+    x : AsFields s start end l w after id k (drop (3 * length (rowsOf k)) before) told
+    x = as-fields s start end l w after id k (drop (3 * length (rowsOf k)) before) told c (sym (ap (λ (rows : List Row). refusalOf rows (childOf (readLayout l))) (rows-table k (childOf (readLayout l)))) ∙ refused) (t .id) (t .cells)
+
+    told-so : Told k told id
+    told-so = accepted-told k (fieldsIn (rowsOf k) (placesIn start l) (childOf (readLayout l))) told id (x .told ∙ ap (λ (y : List ℕ). cellsOf (fieldsIn (rowsOf k) (placesIn start l) (childOf (readLayout l))) ++ drop (3 * length (rowsOf k)) y) b) (x .long) (x .fields) (t .by)
+
+    said : messageBy (o .kind) told id ≡ messageOf k (placesIn start l) (childOf (readLayout l))
+    said = ap (λ (k : ℕ). messageBy k told id) kind ∙ ap (messageFrom k) (x .fields) ∙ sym (message-table k (placesIn start l) (childOf (readLayout l)))
+
+    checks-so : Checks s (answeredBy o (messageBy (o .kind) told id))
+    checks-so = endsSo start end p l w (ap (answeredBy o) said ∙ ap (λ (o : Outcome). answeredBy o (messageOf k (placesIn start l) (childOf (readLayout l)))) e ∙ is-accepted (saidOf (readLayout l) .refusal) start end k (messageOf k (placesIn start l) (childOf (readLayout l))) refused)
+into-accepted b (more start p e c) z i h n = absurd (let y = sym (ap (λ (o : Outcome). o .refusal) e) ∙ z in omega arith)
+into-accepted b (malformed start place p e c) z i h n = absurd (let y = sym (ap (λ (o : Outcome). o .refusal) e) ∙ z in omega arith)
+into-accepted b (too-long start p e c) z i h n = absurd (let y = sym (ap (λ (o : Outcome). o .refusal) e) ∙ z in omega arith)
 
 -- no message, or one that is refused
-pub check-refused : {s : Bytes} {before after : List ℕ} {o : Outcome} {m : Message} {r : Checked} → CellsChecked s before after o → (o .refusal ≡ 0 → ⊥) → m ≡ blank (o .kind) → r ≡ answeredBy o m → Checks s r
+check-refused : {s : Bytes} {before after : List ℕ} {o : Outcome} {m : Message} {r : Checked} → CellsChecked s before after o → (o .refusal ≡ 0 → ⊥) → m ≡ blank (o .kind) → r ≡ answeredBy o m → Checks s r
 check-refused {s} {before} {after} {o} {m} {r} x z q h = go x
   where
     told : {n k start end place : ℕ} → o ≡ outcomeOf n k start end place → r ≡ answeredBy (outcomeOf n k start end place) (blank k)
@@ -55,3 +85,10 @@ check-refused {s} {before} {after} {o} {m} {r} x z q h = go x
     go (more start p e c) = moreSo start p (told e)
     go (malformed start place p e c) = malformedSo start place p (told e)
     go (too-long start p e c) = tooLongSo start p (told e)
+
+pub into-refused : {s : Bytes} {before after told : List ℕ} {o : Outcome} {r : Found} → CellsChecked s before after o → (o .refusal ≡ 0 → ⊥) → told ≡ zeros → r ≡ foundBy o (noId .bytes) → ChecksInto s told r
+into-refused {s} {told} {o} x z t h = subst (λ (r : Found). ChecksInto s told r) (sym h) (subst (λ (l : List ℕ). ChecksInto s l (foundBy o (noId .bytes))) (sym t) (record { checks = check-refused x z (blank-is (o .kind) (noId .bytes)) refl; told = blank-told (o .kind); long = all-cells refl }))
+
+-- the struct that the cells are
+pub handed : {s : Bytes} {cells : List ℕ} {f : Found} {m : Message} → ChecksInto s cells f → m ≡ messageBy (f .kind) cells (f .id) → Checks s (record { refusal = f .refusal; start = f .start; end = f .end; place = f .place; message = m })
+handed {s} {cells} {f} x e = subst (λ (m : Message). Checks s (record { refusal = f .refusal; start = f .start; end = f .end; place = f .place; message = m })) (sym e) (x .checks)

@@ -188,14 +188,14 @@ bits x false true = refl
 bits x false false = refl
 
 -- their names stand on three lines
-on-lines : (nameAt 25 20 ≡ text "FeatureBoardForecast") × (nameAt 26 21 ≡ text "FeatureQueryBoardInfo") × (nameAt 27 20 ≡ text "FeatureSendBoardInfo")
+on-lines : (nameAt 0 20 ≡ text "FeatureBoardForecast") × (nameAt 1 21 ≡ text "FeatureQueryBoardInfo") × (nameAt 2 20 ≡ text "FeatureSendBoardInfo")
 unfolding names
 on-lines = (refl, refl, refl)
 
 finds : {s : Bytes} {inside : ℕ} {n n′ m : Bytes} {r : Named} {f : Forest} → FirstIn s inside n r → n ≡ n′ → n′ ≡ m → Holds s inside f → r .found ≡ hasChild m f
 finds {s} {inside} {r = r} {f = f} p e q h = found-is (subst (λ (n : Bytes). FirstIn s inside n r) (e ∙ q) p .says f h)
 
-pub all-noted : {s : Bytes} {inside : ℕ} {x y z : Named} {l m n : Bytes} {a b d : ℕ} {r : Tried} → l ≡ nameAt 25 20 → FirstIn s inside l x → m ≡ nameAt 26 21 → FirstIn s inside m y → n ≡ nameAt 27 20 → FirstIn s inside n z → a ≡ cond (x .found) 1 0 → b ≡ cond (y .found) 2 0 → d ≡ cond (z .found) 4 0 → r ≡ asCell 0 (1 ∷ (a + (b + d)) ∷ 0 ∷ []) → NotesIn s inside r
+pub all-noted : {s : Bytes} {inside : ℕ} {x y z : Named} {l m n : Bytes} {a b d : ℕ} {r : Tried} → l ≡ nameAt 0 20 → FirstIn s inside l x → m ≡ nameAt 1 21 → FirstIn s inside m y → n ≡ nameAt 2 20 → FirstIn s inside n z → a ≡ cond (x .found) 1 0 → b ≡ cond (y .found) 2 0 → d ≡ cond (z .found) 4 0 → r ≡ asCell 0 (1 ∷ (a + (b + d)) ∷ 0 ∷ []) → NotesIn s inside r
 all-noted {s} {inside} {x} {y} {z} {r = r} i p j q k t e f g u = record { says = go }
   where
     cell : Bool → Bool → Bool → Tried

@@ -1,22 +1,26 @@
 -- The fields that the cells of an accepted message are, are those of its reading.
 use mathlib.Core.Path.{_≡_, refl, sym, ap, subst, _∙_}
 use mathlib.Core.List.{List, [], _∷_, _++_}
-use mathlib.Core.Bool.{Bool, true, false, not, cond}
+use mathlib.Core.Bool.{Bool, true, false, _&&_, not, cond}
 use Prim.Native.Nat.{ℕ, zero, suc, _+_, _-_, _*_, _≤_}
 use native.Mathlib.Omega.{arith}
 use lib.ListN.{length, take, drop, getD}
+use lib.Dec.{leb}
 use Rattle.exact.specs.Chain.{clash}
 use Rattle.grammar.specs.Bytes.{Bytes}
 use Rattle.grammar.specs.Tree.{Tree}
 use Rattle.grammar.specs.Message.{Layout, Laid, readLayout}
 use Rattle.number.specs.Guid.{guidOf}
 use Rattle.value.specs.Ids.{noId}
+use Rattle.value.specs.declared.id.Guid.{Guid}
 use Rattle.value.specs.declared.text.Words.{Words}
 use Rattle.value.specs.declared.text.Words.the-variants.{Absent as NoWords, Present as IsWords}
-use Rattle.table.specs.Table.{Row, Form, words, someWords, whole, guid, version, positive, features, rowsOf}
+use Rattle.table.specs.Table.{Row, Form, words, someWords, whole, guid, version, positive, features, rowsOf, isGuid, guidCellIn}
+use Rattle.table.specs.Theorems.{plainNeed, plainRows, plain-table, plain-flag}
+use Rattle.message.proofs.MessageLaws.{plain-placed}
 use Rattle.table.specs.Says.{aText, anInt, millionths, anId, noted, Result, absent, present, refused, refusalIn, when, without, judged, given, tried, first, refusalOf, childOf}
-use Rattle.message.specs.Fields.{Field, aWords, aWhole, aMeasure, aGuid, aFeatures, wholeIn, measureIn, idIn, featuresIn, fieldOf, fieldsIn}
-use Rattle.message.specs.Cells.{wordsBy, wholeBy, measureBy, guidBy, featuresBy, fieldBy, cellAt, fieldsFrom, wordsCell, wholeCell, measureCell, featuresCell, cellOf, cellsOf}
+use Rattle.message.specs.Fields.{Field, aWords, aWhole, aMeasure, aGuid, aFeatures, wholeIn, measureIn, idIn, featuresIn, fieldFor, fieldOf, fieldsIn}
+use Rattle.message.specs.Cells.{NUMBERS, wordsBy, wholeBy, measureBy, guidBy, featuresBy, fieldBy, cellAt, fieldsFrom, flag, wordsCell, wholeCell, measureCell, featuresCell, cellOf, cellsOf, idCell}
 use Rattle.message.specs.Checked.{placesIn}
 use Rattle.message.specs.Handed.{attributesOf}
 use Rattle.message.specs.declared.values.Whole.{Whole}
@@ -24,12 +28,12 @@ use Rattle.message.specs.declared.values.Whole.the-variants.{Absent as NoWhole,
 use Rattle.message.specs.declared.values.Measure.{Measure}
 use Rattle.message.specs.declared.values.Measure.the-variants.{Absent as NoMeasure, Present as IsMeasure}
 use Rattle.reads.specs.Kept.{keptOf, triedBy, keptIn}
-use Rattle.reads.specs.Ids.{isGuid, guidRow, IdOf, IdAt}
+use Rattle.reads.specs.Ids.{IdOf, IdAt, bared, taken}
 use Rattle.reads.proofs.FindLaws.{first-of}
 use Rattle.reads.proofs.PlaceLaws.{has-worth}
 use Rattle.reads.proofs.RowLaws.{plain, tried-given}
-use Rattle.reads.proofs.TableLaws.{both, noGuid, oneGuid, one-guid}
-use Rattle.reads.proofs.LoopLaws.{next-cell}
+use Rattle.reads.proofs.TableLaws.{both, noGuid, oneGuid, one-guid, no-guid-cell, guid-cell}
+use Rattle.reads.proofs.LoopLaws.{three, next-cell}
 use Rattle.reads.proofs.OutlineLaws.{there-reads, absent-worth}
 
 -- the field of a cell
@@ -72,15 +76,51 @@ IdIs t w x id = isGuid t ≡ true → guidBy (getD (wordsCell w) 0 0) id ≡ idI
 abbrev by : Form → List ℕ → Bytes → Field
 by t c id = fieldBy t (getD c 0 0) (getD c 1 0) (getD c 2 0) id
 
-field-is : (n : Bytes) (t : Form) (o : Bool) (w : Words) (x : Result) (id : Bytes) → IdIs t w x id → by t (cellOf (keptOf t w x)) id ≡ fieldOf (record { name = n; form = t; optional = o }) w x
-unfolding fieldBy keptOf fieldOf
-field-is n (words k) o w x id h = ap aWords (of-words w)
-field-is n (someWords k) o w x id h = ap aWords (of-words w)
-field-is n (whole lo hi) o w x id h = ap aWhole (of-whole (wholeIn x))
-field-is n guid o w x id h = ap aGuid (h refl)
-field-is n version o w x id h = ap aWords (of-words w)
-field-is n positive o w x id h = ap aMeasure (of-measure (measureIn x))
-field-is n features o w x id h = ap aFeatures (of-features x)
+there-flag : (w : Words) (id : Bytes) → flag (guidBy (getD (wordsCell w) 0 0) id .there) ≡ getD (wordsCell w) 0 0
+unfolding guidBy
+there-flag NoWords id = refl
+there-flag (IsWords p) id = refl
+
+id-flag : (w : Words) (x : Result) (id : Bytes) → guidBy (getD (wordsCell w) 0 0) id ≡ idIn x → flag (idIn x .there) ≡ getD (wordsCell w) 0 0
+id-flag w x id h = ap (λ (g : Guid). flag (g .there)) (sym h) ∙ there-flag w id
+
+field-is : (t : Form) (w : Words) (x : Result) (id : Bytes) → IdIs t w x id → by t (cellOf (fieldFor t w x)) id ≡ fieldFor t w x
+unfolding fieldBy fieldFor
+field-is (words k) w x id h = ap aWords (of-words w)
+field-is (someWords k) w x id h = ap aWords (of-words w)
+field-is (whole lo hi) w x id h = ap aWhole (of-whole (wholeIn x))
+field-is guid w x id h = ap aGuid (ap (λ (n : ℕ). guidBy n id) (id-flag w x id (h refl)) ∙ h refl)
+field-is version w x id h = ap aWords (of-words w)
+field-is positive w x id h = ap aMeasure (of-measure (measureIn x))
+field-is features w x id h = ap aFeatures (of-features x)
+
+-- the cell of a row that is no GUID is kept as it is told
+kept-told : (t : Form) (w : Words) (x : Result) → isGuid t ≡ false → keptOf t w x ≡ fieldFor t w x
+unfolding keptOf fieldFor
+kept-told (words k) w x e = refl
+kept-told (someWords k) w x e = refl
+kept-told (whole lo hi) w x e = refl
+kept-told guid w x e = clash e
+kept-told version w x e = refl
+kept-told positive w x e = refl
+kept-told features w x e = refl
+
+-- cells without the place of an id
+bared-next : (at x y z : ℕ) (l : List ℕ) → bared (at + 3) (x ∷ y ∷ z ∷ l) ≡ x ∷ y ∷ z ∷ bared at l
+bared-next at x y z l =
+    let e : at + 3 ≡ suc (suc (suc at)) = omega arith in
+    let f : suc (suc (suc at)) + 3 ≡ suc (suc (suc (at + 3))) = omega arith in
+    ap (λ (n : ℕ). bared n (x ∷ y ∷ z ∷ l)) e ∙ ap (λ (n : ℕ). x ∷ y ∷ z ∷ (take at l ++ (cellAt l at ∷ 0 ∷ 0 ∷ drop n (x ∷ y ∷ z ∷ l)))) f
+
+-- where the GUID stands, one row later
+guid-later : (rows : List Row) (i : ℕ) → noGuid rows ≡ false → guidCellIn NUMBERS rows (i + 1) ≡ guidCellIn NUMBERS rows i + 3
+guid-later [] i e = clash e
+guid-later (r ∷ rows) i e = go (isGuid (r .form)) e (λ f. guid-later rows (i + 1) f)
+  where
+    go : (b : Bool) → not b && noGuid rows ≡ false → (noGuid rows ≡ false → guidCellIn NUMBERS rows (i + 1 + 1) ≡ guidCellIn NUMBERS rows (i + 1) + 3)
+        → cond b (3 * (i + 1)) (guidCellIn NUMBERS rows (i + 1 + 1)) ≡ cond b (3 * i) (guidCellIn NUMBERS rows (i + 1)) + 3
+    go true e f = omega arith
+    go false e f = f e
 
 -- three numbers that stand one after the other
 record Three (cells : List ℕ) (i x y z : ℕ) (l : List ℕ) : Type 0 where
@@ -98,6 +138,10 @@ three-of cells i x y z l e =
     let (a₃, b₃, c₃) = first-of cells (3 * i + 2) z l (subst (λ (n : ℕ). drop n cells ≡ z ∷ l) p c₂) in
     let q : 3 * i + 2 + 1 ≡ 3 * (i + 1) = omega arith in
     record { long = omega arith; one = b₁; two = b₂; three = b₃; rest = subst (λ (n : ℕ). drop n cells ≡ l) q c₃ }
+
+not-so : (b : Bool) → not b ≡ true → b ≡ false
+not-so true e = clash (sym e)
+not-so false e = refl
 
 none-refused : (a b : ℕ) → first a b ≡ 0 → (a ≡ 0) × (b ≡ 0)
 none-refused zero b e = (refl, e)
@@ -143,54 +187,127 @@ module _ (s : Bytes) (start end : ℕ) (l : Layout) (laid : Laid (take (end - st
   here : (r : Row) (rows : List Row) (i : ℕ) → (c : Cells (r ∷ rows) i) → Three cells i (triedBy r at element .there) (triedBy r at element .a) (triedBy r at element .b) (cellsOf (keptIn rows at element) ++ c .0)
   here r rows i (rest, e) = three-of cells i _ _ _ _ (e ∙ ap (λ (l : List ℕ). l ++ rest) (next-cell r rows at element))
 
+  -- the fields of rows without a need for another one
+  abbrev toldIn : List Row → List Field
+  toldIn [] = []
+  toldIn (r ∷ rows) = fieldFor (r .form) (at (r .name)) (tried r element) ∷ toldIn rows
+
+  told-in : (rows : List Row) → plainRows rows ≡ true → toldIn rows ≡ fieldsIn rows at element
+  unfolding fieldsIn
+  told-in [] p = refl
+  told-in (r ∷ rows) p =
+      let (d, q) = both (plainNeed (r .need)) (plainRows rows) p in
+      ap (λ (w : Words). fieldFor (r .form) w (tried r element) ∷ toldIn rows) (sym (plain-placed (r .need) (at (r .name)) d)) ∙ ap (λ (l : List Field). fieldOf r (at (r .name)) (tried r element) ∷ l) (told-in rows q)
+
+  abbrev IdThere : ℕ → Type 0
+  IdThere n = (cellAt cells n ≡ 0 → ⊥) → IdAt s (cellAt cells (n + 1)) (cellAt cells (n + 2)) id
+
   abbrev IdsOf : List Row → Type 0
   IdsOf [] = Unit {0}
   IdsOf (r ∷ rows) = IdIs (r .form) (at (r .name)) (tried r element) id × IdsOf rows
-
-  fields-are : (rows : List Row) (i : ℕ) → Cells rows i → IdsOf rows → fieldsFrom rows i cells id ≡ fieldsIn rows at element
-  unfolding fieldsFrom fieldsIn
-  fields-are [] i c h = refl
-  fields-are (r ∷ rows) i c (h, k) =
-      let t = here r rows i c in
-      let f : fieldBy (r .form) (cellAt cells (3 * i)) (cellAt cells (3 * i + 1)) (cellAt cells (3 * i + 2)) id ≡ fieldOf r (at (r .name)) (tried r element) = rw (t .one, t .two, t .three) (field-is (r .name) (r .form) (r .optional) (at (r .name)) (tried r element) id h) in
-      rw (f, fields-are rows (i + 1) (c .0, t .rest) k)
 
   no-ids : (rows : List Row) → noGuid rows ≡ true → IdsOf rows
   no-ids [] e = tt
   no-ids (r ∷ rows) e = let (a, b) = both (not (isGuid (r .form))) (noGuid rows) e in (λ g. clash (sym (sym (ap not g) ∙ a)), no-ids rows b)
 
   -- the id that is read at the place in the cell of a GUID
-  id-of : (n : Bytes) (o : Bool) (i : ℕ) (w : Words) → at n ≡ w → refusalIn (given guid o n (attributesOf element)) ≡ 0 → 3 * i + 3 ≤ length cells → cellAt cells (3 * i + 1) ≡ getD (wordsCell w) 1 0 → cellAt cells (3 * i + 2) ≡ getD (wordsCell w) 2 0 → IdAt s cells (3 * i) id → guidBy (getD (wordsCell w) 0 0) id ≡ idIn (given guid o n (attributesOf element))
+  id-of : (n : Bytes) (o : Bool) (i : ℕ) (w : Words) → at n ≡ w → refusalIn (given guid o n (attributesOf element)) ≡ 0 → cellAt cells (3 * i) ≡ getD (wordsCell w) 0 0 → cellAt cells (3 * i + 1) ≡ getD (wordsCell w) 1 0 → cellAt cells (3 * i + 2) ≡ getD (wordsCell w) 2 0 → IdThere (3 * i) → guidBy (getD (wordsCell w) 0 0) id ≡ idIn (given guid o n (attributesOf element))
   unfolding guidBy
-  id-of n o i NoWords e z long two three r = no-id o ∙ ap idIn (sym (absent-worth s start end l laid n e guid o))
-  id-of n o i (IsWords p) e z long two three r =
+  id-of n o i NoWords e z one two three r = no-id o ∙ ap idIn (sym (absent-worth s start end l laid n e guid o))
+  id-of n o i (IsWords p) e z one two three r =
       let x = there-reads s start end l laid n p e in
       let y = x .inside in
-      let q = r .says long (omega arith) in
+      let q = r (λ f. let g = sym one ∙ f in omega arith) .says (omega arith) in
       let m : IdOf (take (p .len) (drop (p .start) s)) id = subst (λ (b : ℕ). IdOf (take b (drop (p .start) s)) id) three (subst (λ (a : ℕ). IdOf (take (cellAt cells (3 * i + 2)) (drop a s)) id) two q) in
       let w : given guid o n (attributesOf element) ≡ judged guid (x .value) = has-worth (x .has) guid o in
       id-read (x .value) id (λ g. m .says (x .value) (x .text) g) (ap refusalIn (sym w) ∙ z) ∙ ap idIn (sym w)
 
-  ids-are : (rows : List Row) (i : ℕ) → Cells rows i → refusalOf rows element ≡ 0 → oneGuid rows ≡ true → IdAt s cells (3 * (i + guidRow rows)) id → IdsOf rows
+  ids-are : (rows : List Row) (i : ℕ) → plainRows rows ≡ true → Cells rows i → refusalOf rows element ≡ 0 → oneGuid rows ≡ true → IdThere (guidCellIn NUMBERS rows i) → IdsOf rows
   unfolding refusalOf
-  ids-are [] i c z e r = tt
-  ids-are (row ∷ rows) i c z e r =
+  ids-are [] i p c z e r = tt
+  ids-are (row ∷ rows) i p c z e r =
+      let (d, q) = both (plainNeed (row .need)) (plainRows rows) p in
       let (y, v) = none-refused (refusalIn (tried row element)) (refusalOf rows element) z in
       let t = here row rows i c in
-      go (isGuid (row .form)) refl y t e r (λ f g. ids-are rows (i + 1) (c .0, t .rest) v f g)
+      go (isGuid (row .form)) refl d y t e r (λ f g. ids-are rows (i + 1) q (c .0, t .rest) v f g)
     where
-      id-here : isGuid (row .form) ≡ true → refusalIn (tried row element) ≡ 0 → Three cells i (triedBy row at element .there) (triedBy row at element .a) (triedBy row at element .b) (cellsOf (keptIn rows at element) ++ c .0) → IdAt s cells (3 * i) id → guidBy (getD (wordsCell (at (row .name))) 0 0) id ≡ idIn (tried row element)
-      id-here f y t r =
+      id-here : isGuid (row .form) ≡ true → plainNeed (row .need) ≡ true → refusalIn (tried row element) ≡ 0 → Three cells i (triedBy row at element .there) (triedBy row at element .a) (triedBy row at element .b) (cellsOf (keptIn rows at element) ++ c .0) → IdThere (3 * i) → guidBy (getD (wordsCell (at (row .name))) 0 0) id ≡ idIn (tried row element)
+      id-here f d y t r =
           let g = is-guid (row .form) f in
-          let q : tried row element ≡ given guid (row .optional) (row .name) (attributesOf element) = tried-given (row .form) (row .name) (row .optional) element (ap plain g) ∙ ap (λ (t : Form). given t (row .optional) (row .name) (attributesOf element)) g in
+          let (o, u) = plain-flag (row .need) d in
+          let q : tried row element ≡ given guid o (row .name) (attributesOf element) = tried-given (row .form) (row .name) (row .need) o element u (ap plain g) ∙ ap (λ (t : Form). given t o (row .name) (attributesOf element)) g in
           let k : cellOf (keptOf (row .form) (at (row .name)) (tried row element)) ≡ wordsCell (at (row .name)) = ap cellOf (kept-guid (row .form) (tried row element) g) in
-          id-of (row .name) (row .optional) i (at (row .name)) refl (ap refusalIn (sym q) ∙ y) (t .long) (t .two ∙ ap (λ (l : List ℕ). getD l 1 0) k) (t .three ∙ ap (λ (l : List ℕ). getD l 2 0) k) r ∙ ap idIn (sym q)
+          id-of (row .name) o i (at (row .name)) refl (ap refusalIn (sym q) ∙ y) (t .one ∙ ap (λ (l : List ℕ). getD l 0 0) k) (t .two ∙ ap (λ (l : List ℕ). getD l 1 0) k) (t .three ∙ ap (λ (l : List ℕ). getD l 2 0) k) r ∙ ap idIn (sym q)
 
-      go : (b : Bool) → isGuid (row .form) ≡ b → refusalIn (tried row element) ≡ 0 → Three cells i (triedBy row at element .there) (triedBy row at element .a) (triedBy row at element .b) (cellsOf (keptIn rows at element) ++ c .0) → cond b (noGuid rows) (oneGuid rows) ≡ true → IdAt s cells (3 * (i + cond b 0 (suc (guidRow rows)))) id
-          → (oneGuid rows ≡ true → IdAt s cells (3 * (i + 1 + guidRow rows)) id → IdsOf rows) → IdIs (row .form) (at (row .name)) (tried row element) id × IdsOf rows
-      go true f y t e r k = let n : 3 * (i + 0) ≡ 3 * i = omega arith in (λ g. id-here f y t (subst (λ (n : ℕ). IdAt s cells n id) n r), no-ids rows e)
-      go false f y t e r k = let n : 3 * (i + suc (guidRow rows)) ≡ 3 * (i + 1 + guidRow rows) = omega arith in (λ g. clash (sym g ∙ f), k e (subst (λ (n : ℕ). IdAt s cells n id) n r))
+      go : (b : Bool) → isGuid (row .form) ≡ b → plainNeed (row .need) ≡ true → refusalIn (tried row element) ≡ 0 → Three cells i (triedBy row at element .there) (triedBy row at element .a) (triedBy row at element .b) (cellsOf (keptIn rows at element) ++ c .0) → cond b (noGuid rows) (oneGuid rows) ≡ true → IdThere (cond b (3 * i) (guidCellIn NUMBERS rows (i + 1)))
+          → (oneGuid rows ≡ true → IdThere (guidCellIn NUMBERS rows (i + 1)) → IdsOf rows) → IdIs (row .form) (at (row .name)) (tried row element) id × IdsOf rows
+      go true f d y t e r k = (λ g. id-here f d y t r, no-ids rows e)
+      go false f d y t e r k = (λ g. clash (sym g ∙ f), k e r)
 
-  -- the fields of a kind's rows, where none is refused
-  pub all-fields : (k : ℕ) (rest : List ℕ) → cells ≡ cellsOf (keptIn (rowsOf k) at element) ++ rest → refusalOf (rowsOf k) element ≡ 0 → IdAt s cells (3 * guidRow (rowsOf k)) id → fieldsFrom (rowsOf k) 0 cells id ≡ fieldsIn (rowsOf k) at element
-  all-fields k rest e z r = let n : 3 * guidRow (rowsOf k) ≡ 3 * (0 + guidRow (rowsOf k)) = omega arith in fields-are (rowsOf k) 0 (rest, e) (ids-are (rowsOf k) 0 (rest, e) z (one-guid k) (subst (λ (n : ℕ). IdAt s cells n id) n r))
+  -- the cells without the place of the id are those of the fields
+  plain-cells : (rows : List Row) → noGuid rows ≡ true → cellsOf (keptIn rows at element) ≡ cellsOf (toldIn rows)
+  unfolding cellsOf keptIn
+  plain-cells [] e = refl
+  plain-cells (r ∷ rows) e =
+      let (a, b) = both (not (isGuid (r .form))) (noGuid rows) e in
+      ap (λ (x : Field). cellOf x ++ cellsOf (keptIn rows at element)) (kept-told (r .form) (at (r .name)) (tried r element) (not-so (isGuid (r .form)) a)) ∙ ap (λ (l : List ℕ). cellOf (fieldFor (r .form) (at (r .name)) (tried r element)) ++ l) (plain-cells rows b)
+
+  bared-cells : (rows : List Row) → oneGuid rows ≡ true → noGuid rows ≡ false → IdsOf rows → (rest : List ℕ) → bared (guidCellIn NUMBERS rows 0) (cellsOf (keptIn rows at element) ++ rest) ≡ cellsOf (toldIn rows) ++ rest
+  unfolding cellsOf fieldFor
+  bared-cells [] o e ids rest = clash e
+  bared-cells (r ∷ rows) o e (h, ids) rest = ap (λ (l : List ℕ). bared (guidCellIn NUMBERS (r ∷ rows) 0) (l ++ rest)) (next-cell r rows at element) ∙ go (isGuid (r .form)) refl o e (λ a b. bared-cells rows a b ids rest)
+    where
+      told : List ℕ
+      told = cellsOf (toldIn rows)
+
+      go : (b : Bool) → isGuid (r .form) ≡ b → cond b (noGuid rows) (oneGuid rows) ≡ true → not b && noGuid rows ≡ false → (oneGuid rows ≡ true → noGuid rows ≡ false → bared (guidCellIn NUMBERS rows 0) (cellsOf (keptIn rows at element) ++ rest) ≡ told ++ rest)
+          → bared (cond b (3 * 0) (guidCellIn NUMBERS rows (0 + 1))) (triedBy r at element .there ∷ triedBy r at element .a ∷ triedBy r at element .b ∷ (cellsOf (keptIn rows at element) ++ rest)) ≡ cellsOf (fieldFor (r .form) (at (r .name)) (tried r element) ∷ toldIn rows) ++ rest
+      go true f o e k =
+          let g = is-guid (r .form) f in
+          let t : triedBy r at element .there ≡ flag (idIn (tried r element) .there) = ap (λ (x : Field). getD (cellOf x) 0 0) (kept-guid (r .form) (tried r element) g) ∙ sym (id-flag (at (r .name)) (tried r element) id (h f)) in
+          ap (λ (n : ℕ). n ∷ 0 ∷ 0 ∷ (cellsOf (keptIn rows at element) ++ rest)) t ∙ ap (λ (l : List ℕ). flag (idIn (tried r element) .there) ∷ 0 ∷ 0 ∷ (l ++ rest)) (plain-cells rows o)
+          ∙ ap (λ (F : Form). (cellOf (fieldFor F (at (r .name)) (tried r element)) ++ told) ++ rest) (sym g)
+      go false f o e k =
+          ap (λ (n : ℕ). bared n (triedBy r at element .there ∷ triedBy r at element .a ∷ triedBy r at element .b ∷ (cellsOf (keptIn rows at element) ++ rest))) (guid-later rows 0 e)
+          ∙ bared-next (guidCellIn NUMBERS rows 0) (triedBy r at element .there) (triedBy r at element .a) (triedBy r at element .b) (cellsOf (keptIn rows at element) ++ rest)
+          ∙ ap (λ (l : List ℕ). triedBy r at element .there ∷ triedBy r at element .a ∷ triedBy r at element .b ∷ l) (k o e)
+          ∙ sym (ap (λ (l : List ℕ). l ++ rest) (three (keptOf (r .form) (at (r .name)) (tried r element)) told))
+          ∙ ap (λ (x : Field). (cellOf x ++ told) ++ rest) (kept-told (r .form) (at (r .name)) (tried r element) f)
+
+  -- the fields that the cells of fields are
+  fields-are : (rows : List Row) (i : ℕ) (c rest : List ℕ) → drop (3 * i) c ≡ cellsOf (toldIn rows) ++ rest → IdsOf rows → fieldsFrom rows i c id ≡ toldIn rows
+  unfolding fieldsFrom cellsOf
+  fields-are [] i c rest e h = refl
+  fields-are (r ∷ rows) i c rest e (h, k) =
+      let x = cellOf (fieldFor (r .form) (at (r .name)) (tried r element)) in
+      let t = three-of c i (getD x 0 0) (getD x 1 0) (getD x 2 0) (cellsOf (toldIn rows) ++ rest) (e ∙ ap (λ (l : List ℕ). l ++ rest) (three (fieldFor (r .form) (at (r .name)) (tried r element)) (cellsOf (toldIn rows)))) in
+      let f : fieldBy (r .form) (cellAt c (3 * i)) (cellAt c (3 * i + 1)) (cellAt c (3 * i + 2)) id ≡ fieldFor (r .form) (at (r .name)) (tried r element) = rw (t .one, t .two, t .three) (field-is (r .form) (at (r .name)) (tried r element) id h) in
+      rw (f, fields-are rows (i + 1) c rest (t .rest) k)
+
+  cells-long : (rows : List Row) → length (cellsOf (toldIn rows)) ≡ 3 * length rows
+  unfolding cellsOf
+  cells-long [] = refl
+  cells-long (r ∷ rows) = ap length (three (fieldFor (r .form) (at (r .name)) (tried r element)) (cellsOf (toldIn rows))) ∙ let n = cells-long rows in omega arith
+
+  -- of a kind's rows, where none is refused
+  pub record AsFields (k : ℕ) (rest after : List ℕ) : Type 0 where
+    pub told : after ≡ cellsOf (fieldsIn (rowsOf k) at element) ++ rest
+    pub fields : fieldsFrom (rowsOf k) 0 after id ≡ fieldsIn (rowsOf k) at element
+    pub long : length (cellsOf (fieldsIn (rowsOf k) at element)) ≡ 3 * length (rowsOf k)
+
+  pub as-fields : (k : ℕ) (rest after : List ℕ) → cells ≡ cellsOf (keptIn (rowsOf k) at element) ++ rest → refusalOf (rowsOf k) element ≡ 0 → IdThere (idCell k) → after ≡ taken (idCell k) cells → AsFields k rest after
+  unfolding idCell
+  as-fields k rest after e z r t = record { told = laid-so ∙ ap (λ (l : List Field). cellsOf l ++ rest) are; fields = fields-are (rowsOf k) 0 after rest laid-so ids ∙ are; long = ap (λ (l : List Field). length (cellsOf l)) (sym are) ∙ cells-long (rowsOf k) }
+    where
+      are : toldIn (rowsOf k) ≡ fieldsIn (rowsOf k) at element
+      are = told-in (rowsOf k) (plain-table k)
+
+      ids : IdsOf (rowsOf k)
+      ids = ids-are (rowsOf k) 0 (plain-table k) (rest, e) z (one-guid k) r
+
+      go : (b : Bool) → noGuid (rowsOf k) ≡ b → taken (guidCellIn NUMBERS (rowsOf k) 0) (cellsOf (keptIn (rowsOf k) at element) ++ rest) ≡ cellsOf (toldIn (rowsOf k)) ++ rest
+      go true f = rw (no-guid-cell k f) (ap (λ (l : List ℕ). l ++ rest) (plain-cells (rowsOf k) f))
+      go false f = rw (guid-cell k f) (bared-cells (rowsOf k) (one-guid k) f ids rest)
+
+      laid-so : after ≡ cellsOf (toldIn (rowsOf k)) ++ rest
+      laid-so = t ∙ ap (taken (guidCellIn NUMBERS (rowsOf k) 0)) e ∙ go (noGuid (rowsOf k)) refl

@@ -23,7 +23,7 @@ use Rattle.reads.specs.Kept.{keptOf, triedBy, keptIn, Rowed, AllRowed}
 use Rattle.reads.specs.declared.tried.Tried.{Tried}
 
 -- a cell is three numbers
-three : (x : Field) (l : List ℕ) → cellOf x ++ l ≡ getD (cellOf x) 0 0 ∷ getD (cellOf x) 1 0 ∷ getD (cellOf x) 2 0 ∷ l
+pub three : (x : Field) (l : List ℕ) → cellOf x ++ l ≡ getD (cellOf x) 0 0 ∷ getD (cellOf x) 1 0 ∷ getD (cellOf x) 2 0 ∷ l
 three none l = refl
 three (aWords NoWords) l = refl
 three (aWords (IsWords p)) l = refl

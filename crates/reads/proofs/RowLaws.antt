@@ -16,15 +16,16 @@ use Rattle.value.specs.Loose.{Loose}
 use Rattle.value.specs.declared.text.Span.{Span}
 use Rattle.value.specs.declared.text.Words.{Words}
 use Rattle.value.specs.declared.text.Words.the-variants.{Absent, Present}
-use Rattle.table.specs.Table.{Form, words, someWords, whole, guid, version, positive, features}
-use Rattle.table.specs.Says.{Result, refusalIn, judged, without, given, tried}
+use Rattle.table.specs.Table.{Form, words, someWords, whole, guid, version, positive, features, Need, required, optional}
+use Rattle.table.specs.Says.{Result, refusalIn, judged, without, given, featured, sought, byNeed, tried}
+use Rattle.table.specs.Theorems.{by-flag}
 use Rattle.rows.specs.Coding.{attributeForm, formIn, nameAt}
 use Rattle.rows.specs.declared.data.Row.{Row as Coded}
 use Rattle.message.specs.Fields.{Field, aWords}
 use Rattle.message.specs.Cells.{wordsCell, cellOf}
 use Rattle.message.specs.Handed.{attributesOf}
 use Rattle.reads.specs.Held.{Held, pairs, place, Found, Tries}
-use Rattle.reads.specs.Kept.{asCell, lacking, intOf, sizeOf, keptOf, triedAs, Judges, RowJudges, Rowed, ChildTries}
+use Rattle.reads.specs.Kept.{asCell, lacking, intOf, sizeOf, featuresOf, keptOf, triedAs, Judges, RowJudges, Rowed, ChildTries}
 use Rattle.reads.specs.declared.tried.Tried.{Tried}
 use Rattle.reads.proofs.FieldLaws.{there, tries-absent, tries-present}
 
@@ -92,15 +93,18 @@ attribute-plain k lo hi = go (eqb k 1) (eqb k 2) (eqb k 3) (eqb k 4) (eqb k 5)
     go false false false false true = refl
     go false false false false false = refl
 
-pub tried-given : (t : Form) (n : Bytes) (o : Bool) (x : Tree) → plain t ≡ true → tried (record { name = n; form = t; optional = o }) x ≡ given t o n (attributesOf x)
+sought-given : (t : Form) (n : Bytes) (o : Bool) (x : Tree) → plain t ≡ true → sought t n x o ≡ given t o n (attributesOf x)
+sought-given (words k) n o (tree m a f) p = refl
+sought-given (someWords k) n o (tree m a f) p = refl
+sought-given (whole lo hi) n o (tree m a f) p = refl
+sought-given guid n o (tree m a f) p = refl
+sought-given version n o (tree m a f) p = refl
+sought-given positive n o (tree m a f) p = refl
+sought-given features n o (tree m a f) p = clash (sym p)
+
+pub tried-given : (t : Form) (n : Bytes) (d : Need) (o : Bool) (x : Tree) → d ≡ cond o optional required → plain t ≡ true → tried (record { name = n; form = t; need = d }) x ≡ given t o n (attributesOf x)
 unfolding tried
-tried-given (words k) n o (tree m a f) p = refl
-tried-given (someWords k) n o (tree m a f) p = refl
-tried-given (whole lo hi) n o (tree m a f) p = refl
-tried-given guid n o (tree m a f) p = refl
-tried-given version n o (tree m a f) p = refl
-tried-given positive n o (tree m a f) p = refl
-tried-given features n o (tree m a f) p = clash (sym p)
+tried-given t n d o x e p = ap (λ (d : Need). byNeed d (sought t n x)) e ∙ by-flag o (sought t n x) ∙ sought-given t n o x p
 
 absent-row : (t : Form) (o : Bool) → plain t ≡ true → triedAs t Absent (without o) ≡ lacking o
 unfolding keptOf
@@ -125,7 +129,7 @@ is-plain c other = ap plain (is-attribute c other) ∙ attribute-plain (c .form)
 
 module _ {s : Bytes} {table : List ℕ} {count : ℕ} (inside : ℕ) (c : Coded) (other : c .form ≡ 0 → ⊥) where
   rowed : {r : Tried} → Tries (triedAs (formOf c)) (formOf c) (eqb (c .need) 1) s table count (nameAt (c .line) (c .len)) r → Rowed s table count inside c r
-  rowed x = record { says = λ h m f z. x .says h ∙ sym (ap (triedAs (formOf c) (place h (nameAt (c .line) (c .len)))) (tried-given (formOf c) (nameAt (c .line) (c .len)) (eqb (c .need) 1) (tree m (pairs h) f) (is-plain c other))) }
+  rowed x = record { says = λ h m f z. x .says h ∙ sym (ap (triedAs (formOf c) (place h (nameAt (c .line) (c .len)))) (tried-given (formOf c) (nameAt (c .line) (c .len)) (cond (eqb (c .need) 1) optional required) (eqb (c .need) 1) (tree m (pairs h) f) refl (is-plain c other))) }
 
   named : {n : Bytes} {w : Words} → n ≡ nameAt (c .line) (c .len) → Found s table count n w → Found s table count (nameAt (c .line) (c .len)) w
   named {n} {w} q found = subst (λ (n : Bytes). Found s table count n w) q found
@@ -148,7 +152,8 @@ pub child-rowed : {s : Bytes} {table : List ℕ} {count : ℕ} (inside : ℕ) (c
 unfolding keptOf tried
 child-rowed {s} inside c {r} e q x = record {
   says = λ h m f z. subst (λ (n : Bytes). ChildTries s inside n (eqb (c .need) 1) r) q x .says f z ∙ sym (
-      ap (λ (t : Form). triedAs t (place h (nameAt (c .line) (c .len))) (tried (record { name = nameAt (c .line) (c .len); form = t; optional = eqb (c .need) 1 }) (tree m (pairs h) f))) is);
+      ap (λ (t : Form). triedAs t (place h (nameAt (c .line) (c .len))) (tried (record { name = nameAt (c .line) (c .len); form = t; need = cond (eqb (c .need) 1) optional required }) (tree m (pairs h) f))) is
+      ∙ ap featuresOf (by-flag (eqb (c .need) 1) (λ o. featured (nameAt (c .line) (c .len)) o f)));
 }
   where
     is : formIn (c .form) (c .low) (c .high) ≡ features

@@ -2,18 +2,18 @@
 use mathlib.Core.Path.{_≡_, refl, sym, ap, _∙_}
 use mathlib.Core.List.{List, [], _∷_}
 use mathlib.Core.Bool.{Bool, true, false, _&&_, not, cond}
-use Prim.Native.Nat.{ℕ, _≤_}
+use Prim.Native.Nat.{ℕ, _+_, _≤_, _<_}
 use native.Mathlib.Omega.{arith}
 use lib.ListN.{length}
 use lib.Dec.{leb, eqb}
-use borrow.Author.Tests.{leb-true}
+use borrow.Author.Tests.{leb-true, lt-leb}
 use Rattle.exact.specs.Chain.{clash}
-use Rattle.table.specs.Table.{Row, Entry, table, rowsIn, rowsOf}
+use Rattle.table.specs.Table.{Row, Entry, table, rowsIn, rowsOf, isGuid, guidCellIn}
 use Rattle.rows.specs.Coding.{RowsAt}
 use Rattle.rows.specs.declared.data.Range.{Range}
 use Rattle.rows.proofs.CodingLaws.{length-rows}
-use Rattle.message.specs.Cells.{ROWS}
-use Rattle.reads.specs.Ids.{isGuid}
+use Rattle.message.specs.Cells.{ROWS, NUMBERS}
+use Rattle.structs.proofs.KindLaws.{few-rows}
 
 pub both : (a b : Bool) → a && b ≡ true → (a ≡ true) × (b ≡ true)
 both true b e = (refl, e)
@@ -32,11 +32,7 @@ each-kind f z (x ∷ l) e k = let (a, b) = both (f (x .rows)) (each f l) e in go
     go true a b = a
     go false a b = b
 
--- the cells of a kind have room, and at most one row of a kind is a GUID
-pub few-rows : (k : ℕ) → length (rowsOf k) ≤ ROWS
-unfolding rowsOf table
-few-rows k = leb-true _ _ (each-kind (λ l. leb (length l) ROWS) refl table refl k)
-
+-- at most one row of a kind is a GUID
 abbrev pub noGuid : List Row → Bool
 noGuid [] = true
 noGuid (r ∷ l) = not (isGuid (r .form)) && noGuid l
@@ -46,8 +42,29 @@ oneGuid [] = true
 oneGuid (r ∷ l) = cond (isGuid (r .form)) (noGuid l) (oneGuid l)
 
 pub one-guid : (k : ℕ) → oneGuid (rowsOf k) ≡ true
-unfolding rowsOf table
+unfolding table
 one-guid k = each-kind oneGuid refl table refl k
+
+-- its cell stands among the cells, and behind them if there is none
+abbrev celled : List Row → Bool
+celled l = cond (noGuid l) (leb NUMBERS (guidCellIn NUMBERS l 0)) (leb (guidCellIn NUMBERS l 0 + 3) NUMBERS)
+
+all-celled : (k : ℕ) → celled (rowsOf k) ≡ true
+unfolding table
+all-celled k = each-kind celled refl table refl k
+
+pub no-guid-cell : (k : ℕ) → noGuid (rowsOf k) ≡ true → leb NUMBERS (guidCellIn NUMBERS (rowsOf k) 0) ≡ true
+no-guid-cell k e = sym (ap (λ (b : Bool). cond b (leb NUMBERS (guidCellIn NUMBERS (rowsOf k) 0)) (leb (guidCellIn NUMBERS (rowsOf k) 0 + 3) NUMBERS)) e) ∙ all-celled k
+
+pub guid-cell : (k : ℕ) → noGuid (rowsOf k) ≡ false → leb NUMBERS (guidCellIn NUMBERS (rowsOf k) 0) ≡ false
+guid-cell k e = let z : guidCellIn NUMBERS (rowsOf k) 0 + 3 ≤ NUMBERS = leb-true _ _ (sym (ap (λ (b : Bool). cond b (leb NUMBERS (guidCellIn NUMBERS (rowsOf k) 0)) (leb (guidCellIn NUMBERS (rowsOf k) 0 + 3) NUMBERS)) e) ∙ all-celled k) in lt-leb NUMBERS (guidCellIn NUMBERS (rowsOf k) 0) (omega arith)
+
+pub cell-in : (k : ℕ) → guidCellIn NUMBERS (rowsOf k) 0 < NUMBERS → guidCellIn NUMBERS (rowsOf k) 0 + 3 ≤ NUMBERS
+cell-in k h = go (noGuid (rowsOf k)) refl
+  where
+    go : (b : Bool) → noGuid (rowsOf k) ≡ b → guidCellIn NUMBERS (rowsOf k) 0 + 3 ≤ NUMBERS
+    go true e = absurd (let z : NUMBERS ≤ guidCellIn NUMBERS (rowsOf k) 0 = leb-true _ _ (no-guid-cell k e) in omega arith)
+    go false e = leb-true _ _ (sym (ap (λ (b : Bool). cond b (leb NUMBERS (guidCellIn NUMBERS (rowsOf k) 0)) (leb (guidCellIn NUMBERS (rowsOf k) 0 + 3) NUMBERS)) e) ∙ all-celled k)
 
 pub room : {k : ℕ} {r : Range} → RowsAt k r → r .count ≤ ROWS
 room {k} {r} h = let f = few-rows k in let e = ap length (h .all) ∙ length-rows (r .from) (r .count) in omega arith

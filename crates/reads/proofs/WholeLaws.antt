@@ -12,7 +12,8 @@ use Rattle.reader.specs.Answer.{Accepted, Outlined}
 use Rattle.reader.specs.declared.answer.Answer.the-variants.{Ends, More, Malformed, TooLong}
 use Rattle.reader.specs.declared.answer.Outline.{Outline}
 use Rattle.value.specs.declared.text.Words.{Words}
-use Rattle.table.specs.Table.{kindOf, rowsOf}
+use Rattle.table.specs.Table.{Row, kindOf, rowsOf}
+use Rattle.table.specs.Theorems.{rows-table}
 use Rattle.table.specs.Says.{refusalOf, childOf, childrenOf, nameOf, saidOf}
 use Rattle.message.specs.Checked.{placeOf, placesIn}
 use Rattle.message.specs.Cells.{cellsOf}
@@ -41,6 +42,7 @@ module _ {s : Bytes} {start end from to count inside : ℕ} {old new : List ℕ}
         t .refusal (accepted-held a) (take (to - from) (drop from s)) (childrenOf (readElement (child a))) (accepted-holds a)
         ∙ ap (λ (k : ℕ). refusalOf (rowsOf k) (tree (take (to - from) (drop from s)) (pairs (accepted-held a)) (childrenOf (readElement (child a))))) e
         ∙ as-read (λ k p t. refusalOf (rowsOf k) t)
+        ∙ sym (ap (λ (rows : List Row). refusalOf rows (childOf (readLayout (a .layout)))) (rows-table (saidOf (readLayout (a .layout)) .kind) (childOf (readLayout (a .layout)))))
 
     cells-are : after ≡ cellsIn start (a .layout) before
     cells-are =

@@ -1,36 +1,32 @@
 -- The id of a message, by the cell of its row.
 use mathlib.Core.Path.{_≡_}
-use mathlib.Core.List.{List, [], _∷_}
-use mathlib.Core.Bool.{Bool, true, false, cond}
-use Prim.Native.Nat.{ℕ, suc, _+_, _*_, _≤_}
+use mathlib.Core.List.{List, _∷_, _++_}
+use mathlib.Core.Bool.{true, cond}
+use Prim.Native.Nat.{ℕ, _+_, _≤_}
 use lib.ListN.{length, take, drop}
+use lib.Dec.{leb}
 use Rattle.grammar.specs.Bytes.{Bytes}
 use Rattle.number.specs.Guid.{guidOf}
 use Rattle.value.specs.Text.{Text}
-use Rattle.table.specs.Table.{Row, Form, words, someWords, whole, guid, version, positive, features, rowsOf}
-use Rattle.message.specs.Cells.{cellAt}
-
-abbrev pub isGuid : Form → Bool
-isGuid (words n) = false
-isGuid (someWords n) = false
-isGuid (whole lo hi) = false
-isGuid guid = true
-isGuid version = false
-isGuid positive = false
-isGuid features = false
-
--- which row is the first GUID; the number of rows if none is
-abbrev pub guidRow : List Row → ℕ
-guidRow [] = 0
-guidRow (r ∷ l) = cond (isGuid (r .form)) 0 (suc (guidRow l))
+use Rattle.message.specs.Cells.{NUMBERS, cellAt, idBy}
 
 -- r is the GUID that the raw value reads as
 pub record IdOf (raw r : Bytes) : Type 0 where
   pub says : (v : Bytes) → Text raw v → guidOf v ≡ true → r ≡ v
 
--- so at the place that the three numbers from `at` on tell, if it is inside s
-pub record IdAt (s : Bytes) (cells : List ℕ) (at : ℕ) (r : Bytes) : Type 0 where
-  pub says : at + 3 ≤ length cells → cellAt cells (at + 1) + cellAt cells (at + 2) ≤ length s → IdOf (take (cellAt cells (at + 2)) (drop (cellAt cells (at + 1)) s)) r
+-- so at a place that is inside s
+pub record IdAt (s : Bytes) (start len : ℕ) (r : Bytes) : Type 0 where
+  pub says : start + len ≤ length s → IdOf (take len (drop start s)) r
 
-abbrev pub IdIn : Bytes → ℕ → List ℕ → Bytes → Type 0
-IdIn s k cells r = IdAt s cells (3 * guidRow (rowsOf k)) r
+-- the place of the raw value taken out of the cell that stands at `at`, if there is one
+abbrev pub bared : ℕ → List ℕ → List ℕ
+bared at cells = take at cells ++ (cellAt cells at ∷ 0 ∷ 0 ∷ drop (at + 3) cells)
+
+abbrev pub taken : ℕ → List ℕ → List ℕ
+taken at cells = cond (leb NUMBERS at) cells (bared at cells)
+
+-- the id at that place; zeros if there is none
+pub record TakesId (s : Bytes) (at : ℕ) (before after : List ℕ) (r : Bytes) : Type 0 where
+  pub id : (cellAt before at ≡ 0 → ⊥) → IdAt s (cellAt before (at + 1)) (cellAt before (at + 2)) r
+  pub cells : after ≡ taken at before
+  pub by : r ≡ idBy at after r

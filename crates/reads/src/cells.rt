@@ -12,8 +12,8 @@ use crate::trying::try_row;
 use rows::data::row_at;
 use rows::data::rows_of;
 
-// Three numbers put down.
-fn put(cells: &mut [u64], at: usize, there: u64, a: u64, b: u64)
+/// Three numbers put down.
+pub fn put(cells: &mut [u64], at: usize, there: u64, a: u64, b: u64)
     requires { ⌜ at + 3 ≤ length (now cells) ⌝ }
     ensures { λ r. ⌜ now (cells .exit) ≡ take at (now (cells .entry)) ++ (there ∷ a ∷ b ∷ drop (at + 3) (now (cells .entry))) ⌝ }
 {

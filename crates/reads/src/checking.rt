@@ -1,24 +1,51 @@
 // What a message says.
 ghost use mathlib.Core.Path.{_≡_};
+ghost use lib.ListN.{replicate};
+ghost use Rattle.message.specs.Cells.{NUMBERS};
 ghost use Rattle.message.specs.Checked.{Checks};
-use crate::ids::id_in;
+ghost use Rattle.reads.specs.Whole.{ChecksInto};
+use crate::ids::take_id;
 use crate::whole::Outcome;
 use crate::whole::check_cells;
 use message::Checked;
-use message::kinds::Message;
-use structs::blank;
+use structs::clear;
 use structs::message_of;
 
-fn answered(o: Outcome, message: Message) -> Checked
-    ensures { λ r. ⌜ r ≡ record { refusal = o .refusal; start = o .start; end = o .end; place = o .place; message = message } ⌝ }
+/// What stands behind the glue in front of an input, as message::Checked says; what a message says stands in cells, but for its BoardId.
+pub struct Found {
+    pub refusal: u8,
+    pub kind: u8,
+    pub start: usize,
+    pub end: usize,
+    pub place: usize,
+    pub id: [u8; 36],
+}
+
+fn told(o: Outcome, id: [u8; 36]) -> Found
+    ensures { λ r. ⌜ r ≡ record { refusal = o .refusal; kind = o .kind; start = o .start; end = o .end; place = o .place; id = id } ⌝ }
 {
-    Checked {
+    Found {
         refusal: o.refusal,
+        kind: o.kind,
         start: o.start,
         end: o.end,
         place: o.place,
-        message: message,
+        id: id,
     }
+}
+
+/// Reads the message behind the glue in front of s, and tries its attributes. What it says stands in the cells then; they stay zeros if it is refused.
+pub fn check_into(s: &[u8], cells: &mut [u64]) -> Found
+    requires { ⌜ now cells ≡ replicate NUMBERS 0 ⌝ }
+    ensures { λ r. ⌜ ChecksInto (now (s .entry)) (now (cells .exit)) r ⌝ }
+{
+    let o = check_cells(s, &mut *cells);
+    if o.refusal == 0 {
+        let id = take_id(s, o.kind, &mut *cells);
+        return told(o, id);
+    }
+    clear(&mut *cells);
+    told(o, [0u8; 36])
 }
 
 /// Reads the message behind the glue in front of s, and tries its attributes.
@@ -26,11 +53,14 @@ pub fn check(s: &[u8]) -> Checked
     ensures { λ r. ⌜ Checks (now (s .entry)) r ⌝ }
 {
     let mut cells = [0u64; 72];
-    let o = check_cells(s, &mut cells);
-    let kind = o.kind;
-    if o.refusal == 0 {
-        let id = id_in(s, kind, &cells);
-        return answered(o, message_of(kind, &cells, id));
+    let f = check_into(s, &mut cells);
+    let id = f.id;
+    let message = message_of(f.kind, &cells, id);
+    Checked {
+        refusal: f.refusal,
+        start: f.start,
+        end: f.end,
+        place: f.place,
+        message: message,
     }
-    answered(o, blank(kind))
 }

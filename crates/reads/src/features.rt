@@ -66,14 +66,14 @@ fn bit(b: bool, n: u64) -> u64
     0
 }
 
-/// Which features stand in the content behind a start tag. Their names stand on the lines 25 to 27.
+/// Which features stand in the content behind a start tag. Their names stand on the lines 0 to 2.
 pub fn noted(s: &[u8], inside: usize, names: &[u8]) -> Tried
     requires { ⌜ now names ≡ letters ⌝ }
     ensures { λ r. ⌜ NotesIn (now (s .entry)) inside r ⌝ }
 {
-    let forecast = first_child(s, inside, name_at(names, 25, 20));
-    let query = first_child(s, inside, name_at(names, 26, 21));
-    let send = first_child(s, inside, name_at(names, 27, 20));
+    let forecast = first_child(s, inside, name_at(names, 0, 20));
+    let query = first_child(s, inside, name_at(names, 1, 21));
+    let send = first_child(s, inside, name_at(names, 2, 20));
     let a = bit(forecast.found, 1);
     let b = bit(query.found, 2);
     let c = bit(send.found, 4);

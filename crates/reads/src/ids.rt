@@ -1,33 +1,14 @@
-// The id of a message: what the row reads as that is a GUID.
+// The id of a message: what the value reads as that is a GUID.
 ghost use mathlib.Core.Path.{_≡_};
 ghost use mathlib.Core.Bool.{true};
 ghost use Prim.Native.Nat.{_≤_};
 ghost use lib.ListN.{length};
 ghost use Rattle.value.specs.Text.{asRead};
-ghost use Rattle.table.specs.Table.{rowsOf};
-ghost use Rattle.reads.specs.Ids.{guidRow, IdOf, IdIn};
-use rows::data::NUMBERS;
-use rows::data::row_at;
-use rows::data::rows_of;
-
-// Which row of the kind is a GUID; the number of rows if none is.
-fn id_row(kind: u8) -> usize
-    ensures { λ r. ⌜ r ≡ guidRow (rowsOf kind) ⌝ }
-{
-    let range = rows_of(kind);
-    let from = range.from;
-    let n = range.count;
-    let numbers = NUMBERS;
-    let mut i = 0;
-    while i < n {
-        let row = row_at(&numbers, from + i);
-        if row.form == 4 {
-            return i;
-        }
-        i += 1;
-    }
-    n
-}
+ghost use Rattle.message.specs.Cells.{NUMBERS, idCell};
+ghost use Rattle.reads.specs.Ids.{IdOf, IdAt, TakesId};
+use crate::cells::put;
+use rows::data::NO_ID;
+use rows::data::id_cell;
 
 // The lesser of both.
 fn least(a: u8, b: u8) -> u8
@@ -79,16 +60,10 @@ fn id_of(raw: &[u8]) -> [u8; 36]
     g.bytes
 }
 
-/// The id of a message of that kind that is not refused, by the place in its cell.
-pub fn id_in(s: &[u8], kind: u8, cells: &[u64]) -> [u8; 36]
-    ensures { λ r. ⌜ IdIn (now (s .entry)) kind (now (cells .entry)) r ⌝ }
+// The id that stands there; zeros if that is outside.
+fn id_at(s: &[u8], start: usize, len: usize) -> [u8; 36]
+    ensures { λ r. ⌜ IdAt (now (s .entry)) start len r ⌝ }
 {
-    let i = id_row(kind);
-    if cells.len() < 3 * i + 3 {
-        return [0u8; 36];
-    }
-    let start = cells[3 * i + 1] as usize;
-    let len = cells[3 * i + 2] as usize;
     if s.len() < start {
         return [0u8; 36];
     }
@@ -96,4 +71,23 @@ pub fn id_in(s: &[u8], kind: u8, cells: &[u64]) -> [u8; 36]
         return [0u8; 36];
     }
     id_of(&s[start..start + len])
+}
+
+/// The id of a message of that kind that is not refused. In its cell stands whether it is there; the place of its raw value is taken out.
+pub fn take_id(s: &[u8], kind: u8, cells: &mut [u64]) -> [u8; 36]
+    requires { ⌜ length (now cells) ≡ NUMBERS ⌝ }
+    ensures { λ r. ⌜ TakesId (now (s .entry)) (idCell kind) (now (cells .entry)) (now (cells .exit)) r ⌝ }
+{
+    let at = id_cell(kind);
+    if NO_ID <= at {
+        return [0u8; 36];
+    }
+    let there = cells[at];
+    let start = cells[at + 1] as usize;
+    let len = cells[at + 2] as usize;
+    put(&mut *cells, at, there, 0, 0);
+    if there == 0 {
+        return [0u8; 36];
+    }
+    id_at(s, start, len)
 }

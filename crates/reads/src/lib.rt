@@ -11,7 +11,8 @@ mod tried;
 mod trying;
 mod whole;
 
+pub use checking::Found;
 pub use checking::check;
-pub use ids::id_in;
+pub use checking::check_into;
 pub use whole::Outcome;
 pub use whole::check_cells;

@@ -6,59 +6,33 @@ use Prim.Native.Nat.{ℕ, zero, suc, _+_, _-_, _*_, _/_, _%_, _≤_}
 use Prim.Native.Char.{code}
 use lib.ListN.{take, drop, getD, length, replicate}
 use lib.Dec.{eqb, leb}
-use Rattle.grammar.specs.Bytes.{Bytes, text, same}
-use Rattle.table.specs.Table.{Row, Entry, Form, words, someWords, whole, guid, version, positive, features, table, rowsOf}
+use Rattle.grammar.specs.Bytes.{Bytes, text, same, among}
+use Rattle.table.specs.Table.{Row, Entry, Form, words, someWords, whole, guid, version, positive, features, Need, required, optional, requiredWith, ignored, table, rowsOf, guidCellIn}
 use Rattle.rows.specs.declared.data.Row.{Row as Coded}
 use Rattle.rows.specs.declared.data.Range.{Range}
 
--- how many rows, kinds and names there are; the rows that a kind can have; the bytes of a line
-abbrev pub ROWS : ℕ
-ROWS = 31
-
-abbrev pub KINDS : ℕ
-KINDS = 10
-
-abbrev pub LINES : ℕ
-LINES = 28
-
+-- the rows that a kind can have; the bytes of a line
 abbrev pub MOST : ℕ
 MOST = 24
 
 abbrev pub WIDTH : ℕ
 WIDTH = 24
 
--- a name on each line
+-- the names of rows, each once, in the order of the table
+abbrev withName : List Bytes → Bytes → List Bytes
+withName l n = cond (among l n) l (l ++ n ∷ [])
+
+abbrev withRows : List Bytes → List Row → List Bytes
+withRows l [] = l
+withRows l (r ∷ rows) = withRows (withName l (r .name)) rows
+
+abbrev withEntries : List Bytes → List Entry → List Bytes
+withEntries l [] = l
+withEntries l (e ∷ entries) = withEntries (withRows l (e .rows)) entries
+
+-- a name on each line: the features, then the rows
 abbrev pub lines : List Bytes
-lines =
-    text "MachineId"
-    ∷ text "LaneId"
-    ∷ text "Version"
-    ∷ text "SupportedFeatures"
-    ∷ text "NotificationCode"
-    ∷ text "Severity"
-    ∷ text "Description"
-    ∷ text "BoardId"
-    ∷ text "BoardIdCreatedBy"
-    ∷ text "FailedBoard"
-    ∷ text "ProductTypeId"
-    ∷ text "FlippedBoard"
-    ∷ text "TopBarcode"
-    ∷ text "BottomBarcode"
-    ∷ text "Length"
-    ∷ text "Width"
-    ∷ text "Thickness"
-    ∷ text "ConveyorSpeed"
-    ∷ text "TopClearanceHeight"
-    ∷ text "BottomClearanceHeight"
-    ∷ text "Weight"
-    ∷ text "WorkOrderId"
-    ∷ text "TransferState"
-    ∷ text "Type"
-    ∷ text "Id"
-    ∷ text "FeatureBoardForecast"
-    ∷ text "FeatureQueryBoardInfo"
-    ∷ text "FeatureSendBoardInfo"
-    ∷ []
+lines = text "FeatureBoardForecast" ∷ text "FeatureQueryBoardInfo" ∷ text "FeatureSendBoardInfo" ∷ withEntries [] table
 
 -- blanks behind the name
 abbrev pub padded : Bytes → Bytes
@@ -93,31 +67,52 @@ codeOf guid = (4, (0, 0))
 codeOf version = (5, (0, 0))
 codeOf positive = (6, (0, 0))
 
-abbrev pub numberOf : Row → ℕ
-numberOf r = ((((codeOf (r .form) .0 * 256 + cond (r .optional) 1 0) * 65536 + codeOf (r .form) .1 .0) * 65536 + codeOf (r .form) .1 .1) * 256 + lineIn lines (r .name)) * 256 + length (r .name)
+-- the need; those that the code does not have yet have a number that it takes for required, so that a table with them is not the code's
+abbrev pub needCode : Need → ℕ
+needCode required = 0
+needCode optional = 1
+needCode (requiredWith n) = 2
+needCode ignored = 3
 
-abbrev pub numbersOf : List Row → List ℕ
-numbersOf [] = []
-numbersOf (r ∷ l) = numberOf r ∷ numbersOf l
+abbrev pub numberOf : List Bytes → Row → ℕ
+numberOf l r = ((((codeOf (r .form) .0 * 256 + needCode (r .need)) * 65536 + codeOf (r .form) .1 .0) * 65536 + codeOf (r .form) .1 .1) * 256 + lineIn l (r .name)) * 256 + length (r .name)
+
+abbrev pub numbersOf : List Bytes → List Row → List ℕ
+numbersOf l [] = []
+numbersOf l (r ∷ rows) = numberOf l r ∷ numbersOf l rows
 
 -- of all kinds in order
-abbrev pub allOf : List Entry → List ℕ
-allOf [] = []
-allOf (e ∷ l) = numbersOf (e .rows) ++ allOf l
+abbrev pub allOf : List Bytes → List Entry → List ℕ
+allOf l [] = []
+allOf l (e ∷ entries) = numbersOf l (e .rows) ++ allOf l entries
 
 unfoldable pub numbers : List ℕ
-numbers = allOf table
+numbers = allOf lines table
 
--- where the rows of a kind start, and the length of its name
+-- how many rows, kinds and names there are
+abbrev pub ROWS : ℕ
+ROWS = length numbers
+
+abbrev pub KINDS : ℕ
+KINDS = length table
+
+abbrev pub LINES : ℕ
+LINES = length lines
+
+-- where the cell of a kind's BoardId stands: behind the cells of MOST rows if it has none
+abbrev pub NO_ID : ℕ
+NO_ID = 72
+
+-- where the cell of a kind's BoardId stands, where its rows start, and the length of its name
 abbrev pub kindsOf : ℕ → List Entry → List ℕ
-kindsOf at [] = (at * 256) ∷ []
-kindsOf at (e ∷ l) = (at * 256 + length (e .name)) ∷ kindsOf (at + length (e .rows)) l
+kindsOf at [] = (NO_ID * 65536 + at * 256) ∷ []
+kindsOf at (e ∷ l) = (guidCellIn NO_ID (e .rows) 0 * 65536 + at * 256 + length (e .name)) ∷ kindsOf (at + length (e .rows)) l
 
 unfoldable pub kinds : List ℕ
-kinds = 0 ∷ kindsOf 0 table
+kinds = NO_ID * 65536 ∷ kindsOf 0 table
 
 unfoldable pub startOf : ℕ → ℕ
-startOf k = getD kinds k 0 / 256
+startOf k = getD kinds k 0 / 256 % 256
 
 -- what a value must be, by number
 abbrev pub attributeForm : ℕ → ℕ → ℕ → Form
@@ -131,7 +126,7 @@ nameAt line len = take (line * WIDTH + len - line * WIDTH) (drop (line * WIDTH) 
 
 -- a row of the code as a row of the table
 abbrev pub rowOf : Coded → Row
-rowOf c = record { name = nameAt (c .line) (c .len); form = formIn (c .form) (c .low) (c .high); optional = eqb (c .need) 1 }
+rowOf c = record { name = nameAt (c .line) (c .len); form = formIn (c .form) (c .low) (c .high); need = cond (eqb (c .need) 1) optional required }
 
 abbrev pub coded : ℕ → Coded
 coded x = record { form = x / 0x0100_0000_0000_0000; need = x / 0x0001_0000_0000_0000 % 256; low = x / 0x0001_0000_0000 % 65536; high = x / 0x0001_0000 % 65536; line = x / 0x100 % 256; len = x % 256 }
@@ -144,13 +139,12 @@ unfoldable pub rowsFrom : ℕ → ℕ → List Row
 rowsFrom j zero = []
 rowsFrom j (suc n) = rowOf (codedAt j) ∷ rowsFrom (suc j) n
 
--- a row is as its form asks
+-- the numbers of a row are in their places
 pub record Sound (c : Coded) : Type 0 where
   pub low : c .low ≤ 65535
   pub high : c .high ≤ 65535
   pub line : suc (c .line) ≤ LINES
   pub len : c .len ≤ WIDTH
-  pub child : c .form ≡ 0 → same (nameAt (c .line) (c .len)) (text "SupportedFeatures") && not (eqb (c .need) 1) ≡ true
 
 pub record RowsAt (k : ℕ) (r : Range) : Type 0 where
   pub all : rowsOf k ≡ rowsFrom (r .from) (r .count)

@@ -1,18 +1,25 @@
 // The attribute table for code: the names, a line each, and a number for each row and each kind.
 ghost use mathlib.Core.Path.{_≡_};
 ghost use Prim.Native.Nat.{_+_, _≤_, _<_};
-ghost use Rattle.rows.specs.Coding.{numbers as coding, names as letters, codedAt, ROWS as MANY, LINES as LAST, RowsAt, nameAt};
+ghost use Rattle.table.specs.Table.{rowsOf, guidCellIn};
+ghost use Rattle.rows.specs.Coding.{numbers as coding, names as letters, codedAt, ROWS as MANY, LINES as LAST, NO_ID, RowsAt, nameAt};
 
 /// The first and the last kind.
 pub const FIRST: u8 = 1;
 
 pub const LAST: u8 = 10;
 
+/// Where the cell of no BoardId stands: behind all cells.
+pub const NO_ID: usize = 72;
+
 /// The bytes of a line.
 pub const WIDTH: usize = 24;
 
-/// The names of attributes and elements. The line of a name is its number.
+/// The names of the features, then those of the rows. The line of a name is its number.
 pub const NAMES: [u8; 672] = *b"\
+    FeatureBoardForecast    \
+    FeatureQueryBoardInfo   \
+    FeatureSendBoardInfo    \
     MachineId               \
     LaneId                  \
     Version                 \
@@ -37,10 +44,7 @@ pub const NAMES: [u8; 672] = *b"\
     WorkOrderId             \
     TransferState           \
     Type                    \
-    Id                      \
-    FeatureBoardForecast    \
-    FeatureQueryBoardInfo   \
-    FeatureSendBoardInfo    ";
+    Id                      ";
 
 /// The names of the messages, kind 1 first.
 pub const KIND_NAMES: [u8; 240] = *b"\
@@ -59,95 +63,95 @@ pub const KIND_NAMES: [u8; 240] = *b"\
 /// attribute may be missing; the least int; the largest, or the longest text; the line and the length of the name.
 pub const NUMBERS: [u64; 31] = [
     // MachineId
-    0x1_00_0000_0050_00_09,
+    0x1_00_0000_0050_03_09,
     // LaneId
-    0x3_00_0001_FFFF_01_06,
+    0x3_00_0001_FFFF_04_06,
     // Version
-    0x5_00_0000_0000_02_07,
+    0x5_00_0000_0000_05_07,
     // SupportedFeatures
-    0x0_00_0000_0000_03_11,
+    0x0_00_0000_0000_06_11,
     // NotificationCode
-    0x3_00_0001_FFFF_04_10,
+    0x3_00_0001_FFFF_07_10,
     // Severity
-    0x3_00_0001_0004_05_08,
+    0x3_00_0001_0004_08_08,
     // Description
-    0x1_00_0000_00FE_06_0B,
+    0x1_00_0000_00FE_09_0B,
     // BoardId
-    0x4_00_0000_0000_07_07,
+    0x4_00_0000_0000_0A_07,
     // BoardIdCreatedBy
-    0x2_00_0000_0050_08_10,
+    0x2_00_0000_0050_0B_10,
     // FailedBoard
-    0x3_00_0000_0002_09_0B,
+    0x3_00_0000_0002_0C_0B,
     // ProductTypeId
-    0x1_01_0000_00FE_0A_0D,
-    // FlippedBoard
-    0x3_00_0000_0002_0B_0C,
-    // TopBarcode
-    0x1_01_0000_00FE_0C_0A,
-    // BottomBarcode
     0x1_01_0000_00FE_0D_0D,
+    // FlippedBoard
+    0x3_00_0000_0002_0E_0C,
+    // TopBarcode
+    0x1_01_0000_00FE_0F_0A,
+    // BottomBarcode
+    0x1_01_0000_00FE_10_0D,
     // Length
-    0x6_01_0000_0000_0E_06,
+    0x6_01_0000_0000_11_06,
     // Width
-    0x6_01_0000_0000_0F_05,
+    0x6_01_0000_0000_12_05,
     // Thickness
-    0x6_01_0000_0000_10_09,
+    0x6_01_0000_0000_13_09,
     // ConveyorSpeed
-    0x6_01_0000_0000_11_0D,
+    0x6_01_0000_0000_14_0D,
     // TopClearanceHeight
-    0x6_01_0000_0000_12_12,
+    0x6_01_0000_0000_15_12,
     // BottomClearanceHeight
-    0x6_01_0000_0000_13_15,
+    0x6_01_0000_0000_16_15,
     // Weight
-    0x6_01_0000_0000_14_06,
+    0x6_01_0000_0000_17_06,
     // WorkOrderId
-    0x1_01_0000_0050_15_0B,
+    0x1_01_0000_0050_18_0B,
     // FailedBoard
-    0x3_00_0000_0002_09_0B,
+    0x3_00_0000_0002_0C_0B,
     // BoardId
-    0x4_00_0000_0000_07_07,
+    0x4_00_0000_0000_0A_07,
     // ConveyorSpeed
-    0x6_01_0000_0000_11_0D,
+    0x6_01_0000_0000_14_0D,
     // TransferState
-    0x3_00_0001_0003_16_0D,
+    0x3_00_0001_0003_19_0D,
     // BoardId
-    0x4_00_0000_0000_07_07,
+    0x4_00_0000_0000_0A_07,
     // TransferState
-    0x3_00_0001_0003_16_0D,
+    0x3_00_0001_0003_19_0D,
     // BoardId
-    0x4_00_0000_0000_07_07,
+    0x4_00_0000_0000_0A_07,
     // Type
-    0x3_01_0001_0002_17_04,
+    0x3_01_0001_0002_1A_04,
     // Id
-    0x1_01_0000_0050_18_02,
+    0x1_01_0000_0050_1B_02,
 ];
 
-/// Where the rows of each kind start, and the length of its name; last, where the rows end.
+/// In hex: where the cell of each kind's BoardId stands, 48 if it has none; where its rows start; the length of its name. Last, where the rows end.
 pub const KINDS: [u64; 12] = [
     // none
-    0x00_00,
+    0x48_00_00,
     // ServiceDescription
-    0x00_12,
+    0x48_00_12,
     // Notification
-    0x04_0C,
+    0x48_04_0C,
     // BoardAvailable
-    0x07_0E,
+    0x00_07_0E,
     // RevokeBoardAvailable
-    0x16_14,
+    0x48_16_14,
     // MachineReady
-    0x16_0C,
+    0x48_16_0C,
     // RevokeMachineReady
-    0x17_12,
+    0x48_17_12,
     // StartTransport
-    0x17_0E,
+    0x00_17_0E,
     // StopTransport
-    0x19_0D,
+    0x03_19_0D,
     // TransportFinished
-    0x1B_11,
+    0x03_1B_11,
     // CheckAlive
-    0x1D_0A,
+    0x48_1D_0A,
     // the end
-    0x1F_00,
+    0x48_1F_00,
 ];
 
 /// A row of the table: its form, whether it may be missing, its limits, and the line and the length of its name.
@@ -191,12 +195,23 @@ pub fn rows_of(kind: u8) -> Range
     }
     let k = kind as usize;
     let kinds = KINDS;
-    let from = kinds[k] / 256;
-    let to = kinds[k + 1] / 256;
+    let from = kinds[k] / 256 % 256;
+    let to = kinds[k + 1] / 256 % 256;
     Range {
         from: from as usize,
         count: (to - from) as usize,
     }
+}
+
+/// Where the cell of a kind's BoardId stands, of three numbers for each row; behind all cells if it has none.
+pub fn id_cell(kind: u8) -> usize
+    ensures { λ r. ⌜ r ≡ guidCellIn NO_ID (rowsOf kind) 0 ⌝ }
+{
+    if LAST < kind {
+        return NO_ID;
+    }
+    let kinds = KINDS;
+    (kinds[kind as usize] / 65536) as usize
 }
 
 /// The name that stands on that line.

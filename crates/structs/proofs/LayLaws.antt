@@ -12,10 +12,10 @@ use Rattle.grammar.specs.Bytes.{Bytes}
 use Rattle.value.specs.Ids.{noId}
 use Rattle.table.specs.Table.{Row, table, rowsOf}
 use Rattle.message.specs.Fields.{Field, nth, serviceFields, noticeFields, boardFields, readyFields, startFields, transferFields, aliveFields, fieldsOf}
-use Rattle.message.specs.Cells.{flag, featuresCell, cellOf, cellsOf}
+use Rattle.message.specs.Cells.{flag, featuresCell, cellOf, cellsOf, bytesIn, idOf}
 use Rattle.message.specs.declared.values.Features.{Features}
 use Rattle.message.specs.declared.kinds.Message.{Message}
-use Rattle.structs.specs.Laid.{Lays, bytesIn, idOf}
+use Rattle.structs.specs.Laid.{Lays}
 use Rattle.structs.specs.declared.laying.Cell.{Cell}
 
 -- one value
@@ -103,7 +103,7 @@ either true x = refl
 either false x = refl
 
 no-rows : (k : ℕ) → (k ≡ 1 → ⊥) → (k ≡ 2 → ⊥) → (k ≡ 3 → ⊥) → (k ≡ 5 → ⊥) → (k ≡ 7 → ⊥) → (k ≡ 8 → ⊥) → (k ≡ 9 → ⊥) → (k ≡ 10 → ⊥) → rowsOf k ≡ []
-unfolding rowsOf table
+unfolding table
 no-rows k a b c d e f g h =
     rw (ne-eqb 1 k (λ z. a (sym z)), ne-eqb 2 k (λ z. b (sym z)), ne-eqb 3 k (λ z. c (sym z)), ne-eqb 5 k (λ z. d (sym z)), ne-eqb 7 k (λ z. e (sym z)), ne-eqb 8 k (λ z. f (sym z)), ne-eqb 9 k (λ z. g (sym z)), ne-eqb 10 k (λ z. h (sym z)))
     (ap (λ (l : List Row). cond (eqb 4 k) [] l) (either (eqb 6 k) []) ∙ either (eqb 4 k) [])
@@ -148,7 +148,7 @@ module _ (m : Message) where
       go false e = f (eqb-false k j e)
 
   many : (k : ℕ) → Many k
-  unfolding rowsOf table
+  unfolding table
   many k = decide k 1 refl (λ a. decide k 2 refl (λ b. decide k 3 refl (λ c. decide k 5 refl (λ d. decide k 7 refl (λ e. decide k 8 refl (λ f. decide k 9 refl (λ g. decide k 10 refl (λ h. neither a b c d e f g h))))))))
     where
       neither : (k ≡ 1 → ⊥) → (k ≡ 2 → ⊥) → (k ≡ 3 → ⊥) → (k ≡ 5 → ⊥) → (k ≡ 7 → ⊥) → (k ≡ 8 → ⊥) → (k ≡ 9 → ⊥) → (k ≡ 10 → ⊥) → Many k

@@ -32,35 +32,35 @@ part {A} {f} {g} {j} {id} p k c d h = ap g h ∙ go (eqb k j) refl
     go false e = p .of-none
 
 service-part : (id : Bytes) → Part serviceFrom serviceIn 1 id
-unfolding rowsOf table fieldsFrom fieldBy wordsBy wholeBy measureBy guidBy featuresBy
+unfolding table fieldsFrom fieldBy wordsBy wholeBy measureBy guidBy featuresBy
 service-part id = record { of-kind = λ c. refl; of-none = refl }
 
 notice-part : (id : Bytes) → Part noticeFrom noticeIn 2 id
-unfolding rowsOf table fieldsFrom fieldBy wordsBy wholeBy measureBy guidBy featuresBy
+unfolding table fieldsFrom fieldBy wordsBy wholeBy measureBy guidBy featuresBy
 notice-part id = record { of-kind = λ c. refl; of-none = refl }
 
 board-part : (id : Bytes) → Part boardFrom (λ c. boardIn c id) 3 id
-unfolding rowsOf table fieldsFrom fieldBy wordsBy wholeBy measureBy guidBy featuresBy
+unfolding table fieldsFrom fieldBy wordsBy wholeBy measureBy guidBy featuresBy
 board-part id = record { of-kind = λ c. refl; of-none = refl }
 
 ready-part : (id : Bytes) → Part readyFrom readyIn 5 id
-unfolding rowsOf table fieldsFrom fieldBy wordsBy wholeBy measureBy guidBy featuresBy
+unfolding table fieldsFrom fieldBy wordsBy wholeBy measureBy guidBy featuresBy
 ready-part id = record { of-kind = λ c. refl; of-none = refl }
 
 start-part : (id : Bytes) → Part startFrom (λ c. startIn c id) 7 id
-unfolding rowsOf table fieldsFrom fieldBy wordsBy wholeBy measureBy guidBy featuresBy
+unfolding table fieldsFrom fieldBy wordsBy wholeBy measureBy guidBy featuresBy
 start-part id = record { of-kind = λ c. refl; of-none = refl }
 
 stop-part : (id : Bytes) → Part transferFrom (λ c. transferIn c id) 8 id
-unfolding rowsOf table fieldsFrom fieldBy wordsBy wholeBy measureBy guidBy featuresBy
+unfolding table fieldsFrom fieldBy wordsBy wholeBy measureBy guidBy featuresBy
 stop-part id = record { of-kind = λ c. refl; of-none = refl }
 
 finished-part : (id : Bytes) → Part transferFrom (λ c. transferIn c id) 9 id
-unfolding rowsOf table fieldsFrom fieldBy wordsBy wholeBy measureBy guidBy featuresBy
+unfolding table fieldsFrom fieldBy wordsBy wholeBy measureBy guidBy featuresBy
 finished-part id = record { of-kind = λ c. refl; of-none = refl }
 
 alive-part : (id : Bytes) → Part aliveFrom aliveIn 10 id
-unfolding rowsOf table fieldsFrom fieldBy wordsBy wholeBy measureBy guidBy featuresBy
+unfolding table fieldsFrom fieldBy wordsBy wholeBy measureBy guidBy featuresBy
 alive-part id = record { of-kind = λ c. refl; of-none = refl }
 
 moved-part : (id : Bytes) (k : ℕ) (c d : List ℕ) → d ≡ cond (eqb k 8 || eqb k 9) c [] → transferIn d id ≡ transferFrom (only (eqb k 8 || eqb k 9) (fieldsFrom (rowsOf k) 0 c id))

@@ -1,9 +1,8 @@
 // A message as numbers alone: its kind, and then its cells.
 ghost use mathlib.Core.Path.{_≡_};
-ghost use lib.ListN.{length};
-ghost use Rattle.message.specs.Cells.{wordsBy, atMost, numbersOf, messageOf};
+ghost use lib.ListN.{length, replicate};
+ghost use Rattle.message.specs.Cells.{cellAt, wordsBy, atMost, numbersOf, kindIn};
 use crate::laying::lay;
-use crate::making::message_of;
 use message::kinds::Message;
 use value::Span;
 use value::Words;
@@ -31,22 +30,32 @@ fn kind_from(n: u64) -> u8
     255
 }
 
-// That an array has all its numbers is known of one that is handed over by value. The copy is never read, and the compiler drops it.
-fn all_there(numbers: [u64; NUMBERS]) -> bool
-    ensures { λ r. ⌜ length numbers ≡ 73 ⌝ }
+/// The kind of a message as numbers. That all numbers are there is known of an array that is handed over by value; the compiler drops the copy.
+pub fn kind_in(numbers: [u64; NUMBERS]) -> u8
+    ensures { λ r. ⌜ (r ≡ kindIn numbers) × (length numbers ≡ 73) ⌝ }
 {
-    true
+    kind_from(numbers[0])
 }
 
-/// The message that these numbers and this BoardId are.
-pub fn message_in(numbers: &[u64; NUMBERS], id: &[u8; 36]) -> Message
-    ensures { λ r. ⌜ r ≡ messageOf (now (numbers .entry)) (now (id .entry)) ⌝ }
+/// The number that stands there; 0 behind the end.
+pub fn cell(cells: &[u64], n: usize) -> u64
+    ensures { λ r. ⌜ r ≡ cellAt (now (cells .entry)) n ⌝ }
 {
-    let all = *numbers;
-    all_there(all);
-    let kind = kind_from(all[0]);
-    let bytes = *id;
-    message_of(kind, &all[1..], bytes)
+    if cells.len() <= n {
+        return 0;
+    }
+    cells[n]
+}
+
+/// Zeros in all cells: nothing is there.
+pub fn clear(cells: &mut [u64])
+    ensures { λ _. ⌜ now (cells .exit) ≡ replicate (length (now (cells .entry))) 0 ⌝ }
+{
+    let mut i = 0;
+    while i < cells.len() {
+        cells[i] = 0;
+        i += 1;
+    }
 }
 
 /// A text that is there, or not.

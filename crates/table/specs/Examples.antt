@@ -12,8 +12,8 @@ use Rattle.number.specs.Guid.{may, filled, guidOf}
 use Rattle.number.specs.Version.{oneToThree, versionOf}
 use Rattle.grammar.specs.Bytes.{Bytes, text, within}
 use Rattle.grammar.specs.Tree.{Pair, Tree, tree, Forest, no-trees, tree-then}
-use Rattle.table.specs.Table.{words, someWords, whole, guid, version, positive, table, kindOf, rowsOf}
-use Rattle.table.specs.Says.{Result, absent, present, refused, aText, anInt, millionths, anId, noted, judged, tried, refusalOf, valuesOf, Said, saidOf}
+use Rattle.table.specs.Table.{words, someWords, whole, guid, version, positive, Entry, entry, _is_, _opt_, ifThere, table}
+use Rattle.table.specs.Says.{Result, absent, present, refused, aText, anInt, millionths, anId, noted, judged, tried, refusalOf, valuesOf, Said, saidIn, saidOf}
 
 infix 70 _:=_
 abbrev _:=_ : String → String → Pair
@@ -42,7 +42,7 @@ many (suc n) = 97 ∷ many n
 
 -- "a name not in the attribute table is kind 0": byte for byte, and then no attribute counts
 pub unknown : Answers (says "checkalive" ("Type" := "9" ∷ [])) 0 0 × Answers (says "BoardForecast" []) 0 0
-unfolding kindOf rowsOf table refusalOf
+unfolding table refusalOf
 unknown = ((refl, refl), (refl, refl))
 
 -- "Attributes are tried in table order, each for 4, 5, 6; the first decides", whatever their order in the message
@@ -50,7 +50,7 @@ pub first-decides :
     Answers (says "BoardAvailable" ("FlippedBoard" := "9" ∷ "BoardIdCreatedBy" := "m" ∷ "BoardId" := "01234567-89ab-cdef-0123-456789abcdef" ∷ [])) 3 4
     × Answers (says "ServiceDescription" ("LaneId" := "0" ∷ "MachineId" := "m" ∷ [])) 1 6
     × Answers (root (tree (text "ServiceDescription") (record { name = text "MachineId"; value = many 81 } ∷ []) no-trees)) 1 5
-unfolding kindOf rowsOf table refusalOf tried judged guidOf filled may hex intOf signed sized trim dropFront dropBack keepBefore blank digit all nonEmpty valueFrom within
+unfolding table refusalOf tried judged guidOf filled may hex intOf signed sized trim dropFront dropBack keepBefore blank digit all nonEmpty valueFrom within
 first-decides = ((refl, refl), (refl, refl), (refl, refl))
 
 -- the limits of a text, and an empty one: 80 bytes may stand, 81 not, none only where it need not be non-empty
@@ -88,17 +88,17 @@ pub ranges :
     × Answers (says "CheckAlive" ("Type" := "0" ∷ [])) 10 6
     × Answers (says "CheckAlive" ("Type" := "2" ∷ [])) 10 0
     × Answers (says "CheckAlive" ("Type" := "3" ∷ [])) 10 6
-unfolding kindOf rowsOf table refusalOf tried judged intOf signed sized trim dropFront dropBack keepBefore blank digit all nonEmpty valueFrom within
+unfolding table refusalOf tried judged intOf signed sized trim dropFront dropBack keepBefore blank digit all nonEmpty valueFrom within
 ranges = ((refl, refl), (refl, refl), (refl, refl), (refl, refl), (refl, refl), (refl, refl), (refl, refl))
 
 -- "An optional value is either absent or present with its value."
 pub optional : saidOf (says "CheckAlive" ("Id" := "" ∷ [])) .values ≡ absent ∷ present (aText []) ∷ []
-unfolding kindOf rowsOf table valuesOf tried judged
+unfolding table valuesOf tried judged
 optional = refl
 
 -- the root's attributes never count as the message's
 pub root-ignored : saidOf (tree (text "Hermes") ("Type" := "9" ∷ "Timestamp" := "x" ∷ []) (tree-then (bare "CheckAlive") no-trees)) .values ≡ absent ∷ absent ∷ []
-unfolding kindOf rowsOf table valuesOf tried judged
+unfolding table valuesOf tried judged
 root-ignored = refl
 
 -- a ServiceDescription with children
@@ -114,13 +114,48 @@ Describes f r = saidOf (described f) .values ≡ present (aText []) ∷ present 
 
 -- "The first SupportedFeatures child counts; of its children .. are noted as present or not."
 pub no-features : Describes no-trees (refused 4)
-unfolding kindOf rowsOf table valuesOf tried judged versionOf oneToThree intOf signed sized trim dropFront dropBack keepBefore blank digit all nonEmpty valueFrom within before behind pointed
+unfolding table valuesOf tried judged versionOf oneToThree intOf signed sized trim dropFront dropBack keepBefore blank digit all nonEmpty valueFrom within before behind pointed
 no-features = refl
 
 pub first-counts : Describes (tree-then (bare "X") (tree-then (featuring no-trees) (tree-then (featuring (tree-then (bare "FeatureBoardForecast") no-trees)) no-trees))) (present (noted false false false))
-unfolding kindOf rowsOf table valuesOf tried judged versionOf oneToThree intOf signed sized trim dropFront dropBack keepBefore blank digit all nonEmpty valueFrom within before behind pointed
+unfolding table valuesOf tried judged versionOf oneToThree intOf signed sized trim dropFront dropBack keepBefore blank digit all nonEmpty valueFrom within before behind pointed
 first-counts = refl
 
 pub direct-children : Describes (tree-then (featuring (tree-then (tree (text "X") [] (tree-then (bare "FeatureBoardForecast") no-trees)) (tree-then (bare "FeatureSendBoardInfo") no-trees))) no-trees) (present (noted false false true))
-unfolding kindOf rowsOf table valuesOf tried judged versionOf oneToThree intOf signed sized trim dropFront dropBack keepBefore blank digit all nonEmpty valueFrom within before behind pointed
+unfolding table valuesOf tried judged versionOf oneToThree intOf signed sized trim dropFront dropBack keepBefore blank digit all nonEmpty valueFrom within before behind pointed
 direct-children = refl
+
+-- a table of its own, of one kind: with a BoardId the maker is required, without it nobody looks at the maker
+abbrev info : List Entry
+info = entry 1 "Info" ("BoardId" opt guid ∷ ifThere "BoardId" ("MadeBy" is someWords 80) ∷ "Weight" opt positive ∷ []) ∷ []
+
+abbrev Informs : List Pair → ℕ → List Result → Type 0
+Informs a n values = (saidIn info (says "Info" a) .kind ≡ 1) × (saidIn info (says "Info" a) .refusal ≡ n) × (saidIn info (says "Info" a) .values ≡ values)
+
+abbrev board : Pair
+board = "BoardId" := "01234567-89ab-cdef-0123-456789abcdef"
+
+abbrev isBoard : Result
+isBoard = present (anId (text "01234567-89ab-cdef-0123-456789abcdef"))
+
+-- required and missing, bad, and good
+pub with-another :
+    Informs (board ∷ []) 4 (isBoard ∷ refused 4 ∷ absent ∷ [])
+    × Informs ("MadeBy" := "" ∷ board ∷ []) 6 (isBoard ∷ refused 6 ∷ absent ∷ [])
+    × Informs ("MadeBy" := "m" ∷ board ∷ []) 0 (isBoard ∷ present (aText (text "m")) ∷ absent ∷ [])
+    × Informs ("BoardId" := "x" ∷ []) 6 (refused 6 ∷ refused 4 ∷ absent ∷ [])
+unfolding refusalOf valuesOf tried judged guidOf filled may hex digit within
+with-another = ((refl, refl, refl), (refl, refl, refl), (refl, refl, refl), (refl, refl, refl))
+
+-- not looked at, though bad; the others are
+pub without-another :
+    Informs ("MadeBy" := "" ∷ []) 0 (absent ∷ absent ∷ absent ∷ [])
+    × Informs ("MadeBy" := "" ∷ "Weight" := "0.5" ∷ []) 0 (absent ∷ absent ∷ present (millionths 500000) ∷ [])
+    × Informs ("MadeBy" := "m" ∷ "Weight" := "0" ∷ []) 6 (absent ∷ absent ∷ refused 6 ∷ [])
+unfolding refusalOf valuesOf tried judged numberOf parted unsigned decimal written short above decimals before behind trim dropFront dropBack keepBefore blank digit all nonEmpty valueFrom within
+without-another = ((refl, refl, refl), (refl, refl, refl), (refl, refl, refl))
+
+-- a name that is a kind of document 01 is none of this table
+pub another-table : (saidIn info (says "CheckAlive" []) .kind ≡ 0) × (saidOf (says "Info" []) .kind ≡ 0)
+unfolding table
+another-table = (refl, refl)

@@ -1,6 +1,6 @@
 -- What a message says: the table's rows tried on the reading of the root's child.
 use mathlib.Core.List.{List, [], _∷_}
-use mathlib.Core.Bool.{Bool, false, _&&_, _||_, not, cond}
+use mathlib.Core.Bool.{Bool, true, false, _&&_, _||_, not, cond}
 use Prim.Native.Nat.{ℕ, zero, suc}
 use lib.ListN.{length}
 use lib.Dec.{leb}
@@ -10,7 +10,7 @@ use Rattle.number.specs.Guid.{guidOf}
 use Rattle.number.specs.Version.{versionOf}
 use Rattle.grammar.specs.Bytes.{Bytes, text, within, nonEmpty, same}
 use Rattle.grammar.specs.Tree.{Pair, Tree, tree, Forest, no-trees, tree-then}
-use Rattle.table.specs.Table.{Row, Form, words, someWords, whole, guid, version, positive, features, kindOf, rowsOf}
+use Rattle.table.specs.Table.{Form, words, someWords, whole, guid, version, positive, features, Need, required, optional, requiredWith, ignored, Row, Entry, table, kindIn, rowsIn, settled}
 
 -- a value as handed out: a text as read, an int, millionths, an id, the features noted
 pub data Value : Type 0 where
@@ -63,14 +63,14 @@ judged version v = when (versionOf v) (aText v)
 judged positive v = measured (numberOf v)
 judged features v = refused BAD
 
--- an attribute that is not there
+-- an attribute that is not there, and may be missing or not
 abbrev pub without : Bool → Result
-without optional = cond optional absent (refused MISSING)
+without opt = cond opt absent (refused MISSING)
 
 -- the attribute of a name: names stand once
 abbrev pub given : Form → Bool → Bytes → List Pair → Result
-given t optional n [] = without optional
-given t optional n (p ∷ l) = cond (same n (p .name)) (judged t (p .value)) (given t optional n l)
+given t opt n [] = without opt
+given t opt n (p ∷ l) = cond (same n (p .name)) (judged t (p .value)) (given t opt n l)
 
 abbrev pub nameOf : Tree → Bytes
 nameOf (tree n a f) = n
@@ -89,21 +89,29 @@ abbrev pub notes : Forest → Value
 notes f = noted (hasChild (text "FeatureBoardForecast") f) (hasChild (text "FeatureQueryBoardInfo") f) (hasChild (text "FeatureSendBoardInfo") f)
 
 abbrev pub featured : Bytes → Bool → Forest → Result
-featured n optional no-trees = without optional
-featured n optional (tree-then t f) = cond (same n (nameOf t)) (present (notes (childrenOf t))) (featured n optional f)
+featured n opt no-trees = without opt
+featured n opt (tree-then t f) = cond (same n (nameOf t)) (present (notes (childrenOf t))) (featured n opt f)
 
--- a row tried on an element: its attribute, or its child
+-- what a form asks of an element: its attribute of the name n, or its child
+abbrev pub sought : Form → Bytes → Tree → Bool → Result
+sought (words k) n (tree m a f) opt = given (words k) opt n a
+sought (someWords k) n (tree m a f) opt = given (someWords k) opt n a
+sought (whole lo hi) n (tree m a f) opt = given (whole lo hi) opt n a
+sought guid n (tree m a f) opt = given guid opt n a
+sought version n (tree m a f) opt = given version opt n a
+sought positive n (tree m a f) opt = given positive opt n a
+sought features n (tree m a f) opt = featured n opt f
+
+-- a result by its need: f false where it must be there, f true where it may be missing. Rows are settled before they are tried.
+abbrev pub byNeed : Need → (Bool → Result) → Result
+byNeed required f = f false
+byNeed optional f = f true
+byNeed (requiredWith n) f = absent
+byNeed ignored f = absent
+
+-- a row tried on an element
 unfoldable pub tried : Row → Tree → Result
-tried r (tree n a f) = go (r .form)
-  where
-    go : Form → Result
-    go (words k) = given (r .form) (r .optional) (r .name) a
-    go (someWords k) = given (r .form) (r .optional) (r .name) a
-    go (whole lo hi) = given (r .form) (r .optional) (r .name) a
-    go guid = given (r .form) (r .optional) (r .name) a
-    go version = given (r .form) (r .optional) (r .name) a
-    go positive = given (r .form) (r .optional) (r .name) a
-    go features = featured (r .name) (r .optional) f
+tried r t = byNeed (r .need) (sought (r .form) (r .name) t)
 
 -- 0 if it is not refused
 abbrev pub refusalIn : Result → ℕ
@@ -136,5 +144,25 @@ pub record Said : Type 0 where
   pub refusal : ℕ
   pub values : List Result
 
+-- an attribute of the name n is there
+abbrev pub hasNamed : List Pair → Bytes → Bool
+hasNamed [] n = false
+hasNamed (p ∷ l) n = same n (p .name) || hasNamed l n
+
+abbrev pub hasAttribute : Tree → Bytes → Bool
+hasAttribute (tree m a f) n = hasNamed a n
+
+-- the rows of a kind, by what an element has
+abbrev pub rowsFor : List Entry → ℕ → Tree → List Row
+rowsFor l k t = settled (hasAttribute t) (rowsIn l k)
+
+-- of an element of kind k
+abbrev pub saidAs : List Entry → ℕ → Tree → Said
+saidAs l k t = record { kind = k; refusal = refusalOf (rowsFor l k t) t; values = valuesOf (rowsFor l k t) t }
+
+-- by a given table, and by the one of document 01
+abbrev pub saidIn : List Entry → Tree → Said
+saidIn l t = saidAs l (kindIn l (nameOf (childOf t))) (childOf t)
+
 abbrev pub saidOf : Tree → Said
-saidOf t = record { kind = kindOf (nameOf (childOf t)); refusal = refusalOf (rowsOf (kindOf (nameOf (childOf t)))) (childOf t); values = valuesOf (rowsOf (kindOf (nameOf (childOf t)))) (childOf t) }
+saidOf t = saidIn table t

@@ -1,7 +1,7 @@
 -- The attribute table of document 01: "Message | Attributes in order (opt = may be missing)".
 use mathlib.Core.List.{List, [], _∷_}
 use mathlib.Core.Bool.{Bool, true, false, _||_, cond}
-use Prim.Native.Nat.{ℕ}
+use Prim.Native.Nat.{ℕ, _+_, _*_}
 use Prim.Native.String.{String}
 use lib.Dec.{eqb}
 use Rattle.lane.specs.Names.{Unknown, ServiceDescription, Notification, BoardAvailable, RevokeBoardAvailable, MachineReady, RevokeMachineReady, StartTransport, StopTransport, TransportFinished, CheckAlive}
@@ -20,26 +20,40 @@ pub data Form : Type 0 where
   -- "child SupportedFeatures"
   features : Form
 
+-- whether it must be there
+pub data Need : Type 0 where
+  required : Need
+  -- "opt = may be missing"
+  optional : Need
+  -- required if the attribute n is there, and ignored if not
+  requiredWith : (n : Bytes) → Need
+  -- not looked at: absent, whatever stands there
+  ignored : Need
+
 pub record Row : Type 0 where
   pub name : Bytes
   pub form : Form
-  pub optional : Bool
+  pub need : Need
 
 infix 70 _is_
-abbrev _is_ : String → Form → Row
-n is t = record { name = text n; form = t; optional = false }
+abbrev pub _is_ : String → Form → Row
+n is t = record { name = text n; form = t; need = required }
 
 -- "opt"
 infix 70 _opt_
-abbrev _opt_ : String → Form → Row
-n opt t = record { name = text n; form = t; optional = true }
+abbrev pub _opt_ : String → Form → Row
+n opt t = record { name = text n; form = t; need = optional }
+
+-- a row that is required if the attribute n is there
+abbrev pub ifThere : String → Row → Row
+ifThere n r = record { name = r .name; form = r .form; need = requiredWith (text n) }
 
 pub record Entry : Type 0 where
   pub kind : ℕ
   pub name : Bytes
   pub rows : List Row
 
-abbrev entry : ℕ → String → List Row → Entry
+abbrev pub entry : ℕ → String → List Row → Entry
 entry k n l = record { kind = k; name = text n; rows = l }
 
 -- "8 StopTransport, 9 TransportFinished | TransferState 1..3; BoardId GUID"
@@ -82,15 +96,15 @@ abbrev pub kindIn : List Entry → Bytes → ℕ
 kindIn [] n = Unknown
 kindIn (e ∷ l) n = cond (same (e .name) n) (e .kind) (kindIn l n)
 
-unfoldable pub kindOf : Bytes → ℕ
+abbrev pub kindOf : Bytes → ℕ
 kindOf n = kindIn table n
 
--- the numbers that are kinds: an entry has them
+-- the numbers that are kinds: those that an entry has
 abbrev pub isKindIn : List Entry → ℕ → Bool
 isKindIn [] k = false
 isKindIn (e ∷ l) k = eqb (e .kind) k || isKindIn l k
 
-unfoldable pub isKind : ℕ → Bool
+abbrev pub isKind : ℕ → Bool
 isKind k = isKindIn table k
 
 -- the rows of a kind; kind 0 and numbers that are no kind have none
@@ -98,5 +112,35 @@ abbrev pub rowsIn : List Entry → ℕ → List Row
 rowsIn [] k = []
 rowsIn (e ∷ l) k = cond (eqb (e .kind) k) (e .rows) (rowsIn l k)
 
-unfoldable pub rowsOf : ℕ → List Row
+abbrev pub rowsOf : ℕ → List Row
 rowsOf k = rowsIn table k
+
+-- the name of a kind; a number that is no kind has none
+abbrev pub nameIn : List Entry → ℕ → Bytes
+nameIn [] k = []
+nameIn (e ∷ l) k = cond (eqb (e .kind) k) (e .name) (nameIn l k)
+
+-- rows where it is known which attributes are there: none of them is required with another one
+abbrev pub settledNeed : (Bytes → Bool) → Need → Need
+settledNeed there required = required
+settledNeed there optional = optional
+settledNeed there (requiredWith n) = cond (there n) required ignored
+settledNeed there ignored = ignored
+
+abbrev pub settled : (Bytes → Bool) → List Row → List Row
+settled there [] = []
+settled there (r ∷ l) = record { name = r .name; form = r .form; need = settledNeed there (r .need) } ∷ settled there l
+
+-- where the cell of the first GUID among rows stands, of three numbers a cell, the first of which has the cell i; `none` if no row is one
+abbrev pub isGuid : Form → Bool
+isGuid (words n) = false
+isGuid (someWords n) = false
+isGuid (whole lo hi) = false
+isGuid guid = true
+isGuid version = false
+isGuid positive = false
+isGuid features = false
+
+abbrev pub guidCellIn : ℕ → List Row → ℕ → ℕ
+guidCellIn none [] i = none
+guidCellIn none (r ∷ l) i = cond (isGuid (r .form)) (3 * i) (guidCellIn none l (i + 1))

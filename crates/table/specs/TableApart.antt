@@ -1,18 +1,19 @@
 -- The attribute table a second time: the lines of document 01 as they are printed there, and how they are read. `table` is what they say.
-use mathlib.Core.Path.{_≡_, refl}
+use mathlib.Core.Path.{_≡_, refl, ap, _∙_}
 use mathlib.Core.List.{List, [], _∷_, _++_}
 use mathlib.Core.Bool.{Bool, true, false, _&&_, _||_, not, cond}
 use Prim.Native.Nat.{ℕ, zero, suc, _<_}
 use Prim.Native.Char.{code}
 use Prim.Native.String.{String}
 use native.Mathlib.Omega.{arith}
-use lib.Dec.{eqb}
+use lib.Dec.{eqb, leb}
 use lib.ListN.{length}
-use borrow.Author.Tests.{ne-eqb}
+use borrow.Author.Tests.{lt-leb}
 use Rattle.number.specs.Bytes.{valueFrom, value}
 use Rattle.exact.specs.Chain.{clash}
-use Rattle.grammar.specs.Bytes.{Bytes, text, nonEmpty, same, among}
-use Rattle.table.specs.Table.{Form, words, someWords, whole, guid, version, positive, features, Row, Entry, table, kindIn, kindOf, rowsOf}
+use Rattle.grammar.specs.Bytes.{Bytes, text, nonEmpty, same, among, within}
+use Rattle.table.specs.Table.{Form, words, someWords, whole, guid, version, positive, features, required, optional, Row, Entry, table, kindIn, kindOf, rowsOf}
+use Rattle.table.specs.Theorems.{kinds-count, no-rows}
 
 -- "| Message | Attributes in order (opt = may be missing) |", line by line
 abbrev pub printed : List String
@@ -79,15 +80,15 @@ formOf (v ∷ w ∷ n ∷ x ∷ l) = unread
 
 -- "child SupportedFeatures", or a name and what is behind it
 abbrev rowFrom : List Bytes → Row
-rowFrom [] = record { name = []; form = unread; optional = false }
+rowFrom [] = record { name = []; form = unread; need = required }
 rowFrom (n ∷ l) =
-    cond (same (text "child") n) (record { name = first l; form = features; optional = false })
-    (record { name = n; form = formOf (without (text "opt") l); optional = among l (text "opt") })
+    cond (same (text "child") n) (record { name = first l; form = features; need = required })
+    (record { name = n; form = formOf (without (text "opt") l); need = cond (among l (text "opt")) optional required })
 
 -- "TopBarcode, BottomBarcode text 254 opt": a name before a comma has what the next one has
 abbrev alike : Bytes → List Row → List Row
 alike n [] = []
-alike n (r ∷ l) = record { name = n; form = r .form; optional = r .optional } ∷ r ∷ l
+alike n (r ∷ l) = record { name = n; form = r .form; need = r .need } ∷ r ∷ l
 
 abbrev sharing : List Bytes → List Row
 sharing [] = []
@@ -135,10 +136,10 @@ ordered (suc n) k l = numbered k l ++ ordered n (suc k) l
 
 -- the entries of the lines, in the order of their numbers
 abbrev pub entries : List Entry
-entries = ordered 10 1 said
+entries = ordered (length said) 1 said
 
 -- the table is these entries, and the lines have no other
-pub table-apart : (table ≡ entries) × (length said ≡ 10)
+pub table-apart : (table ≡ entries) × (length said ≡ length table)
 unfolding table valueFrom
 table-apart = (refl, refl)
 
@@ -155,12 +156,16 @@ abbrev pub again : List Entry → List Entry
 again [] = []
 again (e ∷ l) = record { kind = e .kind; name = e .name; rows = rowsOf (e .kind) } ∷ again l
 
-pub kinds-apart : kindsOf entries ≡ 1 ∷ 2 ∷ 3 ∷ 4 ∷ 5 ∷ 6 ∷ 7 ∷ 8 ∷ 9 ∷ 10 ∷ []
-unfolding table kindOf valueFrom
+abbrev pub upFrom : ℕ → ℕ → List ℕ
+upFrom zero k = []
+upFrom (suc n) k = k ∷ upFrom n (suc k)
+
+pub kinds-apart : kindsOf entries ≡ upFrom (length said) 1
+unfolding table valueFrom
 kinds-apart = refl
 
 pub rows-apart : again entries ≡ entries
-unfolding table rowsOf valueFrom
+unfolding table valueFrom
 rows-apart = refl
 
 -- "a name not in the attribute table is kind 0"
@@ -173,10 +178,14 @@ none-named (e ∷ l) n h = go (same (e .name) n) refl h (λ k. none-named l n k)
     go false f k g = rw f (g k)
 
 pub kind-else : (n : Bytes) → among (namesOf entries) n ≡ false → kindOf n ≡ 0
-unfolding table kindOf valueFrom
+unfolding table valueFrom
 kind-else n h = none-named table n h
 
--- kind 0 and numbers above 10 have no rows
-pub rows-else : (rowsOf 0 ≡ []) × ((k : ℕ) → 10 < k → rowsOf k ≡ [])
-unfolding table rowsOf
-rows-else = (refl, λ k h. rw (ne-eqb 1 k (λ e. omega arith), ne-eqb 2 k (λ e. omega arith), ne-eqb 3 k (λ e. omega arith), ne-eqb 4 k (λ e. omega arith), ne-eqb 5 k (λ e. omega arith), ne-eqb 6 k (λ e. omega arith), ne-eqb 7 k (λ e. omega arith), ne-eqb 8 k (λ e. omega arith), ne-eqb 9 k (λ e. omega arith), ne-eqb 10 k (λ e. omega arith)) refl)
+-- kind 0 and numbers that are no kind have no rows
+pub rows-else : (rowsOf 0 ≡ []) × ((k : ℕ) → length said < k → rowsOf k ≡ [])
+unfolding table valueFrom within
+rows-else = (refl, λ k h. no-rows table k (kinds-count table refl k ∙ ap (λ (b : Bool). leb 1 k && b) (lt-leb k (length table) h) ∙ and-false (leb 1 k)))
+  where
+    and-false : (b : Bool) → b && false ≡ false
+    and-false true = refl
+    and-false false = refl

@@ -3,16 +3,17 @@ use mathlib.Core.Path.{_≡_, refl, sym, ap, subst, _∙_}
 use mathlib.Core.List.{List, [], _∷_, _++_}
 use mathlib.Core.Logic.{_↔_}
 use mathlib.Core.Bool.{Bool, true, false, _&&_, _||_, not, cond}
-use Prim.Native.Nat.{ℕ, zero, suc, _<_}
+use Prim.Native.Nat.{ℕ, zero, suc, _+_, _≤_, _<_}
+use lib.ListN.{length}
 use native.Mathlib.Omega.{arith}
 use lib.Dec.{eqb, leb}
-use borrow.Author.Tests.{eqb-true, eqb-false, leb-true}
+use borrow.Author.Tests.{eqb-true, eqb-false, leb-true, le-leb}
 use Rattle.lane.specs.StepForStep.{after}
 use Rattle.number.specs.Bytes.{before}
 use Rattle.grammar.specs.Bytes.{Bytes, same, within}
 use Rattle.grammar.specs.Tree.{Tree, Forest, no-trees, tree-then}
-use Rattle.table.specs.Table.{Row, Entry, table, isKindIn, isKind}
-use Rattle.table.specs.Says.{present, Value, nameOf, childrenOf, hasChild, notes, featured, tried, refusalIn, first, refusalOf}
+use Rattle.table.specs.Table.{Need, required, optional, requiredWith, ignored, Row, Entry, table, isKindIn, isKind, rowsIn, rowsOf, settledNeed, settled}
+use Rattle.table.specs.Says.{Result, present, Value, nameOf, childrenOf, hasChild, notes, featured, byNeed, tried, refusalIn, first, refusalOf, hasAttribute, rowsFor}
 
 -- T2.M1: "the first decides": a refusal is that of a row before which none is refused
 pub table-first : (rows : List Row) (t : Tree) (n : ℕ) → refusalOf rows t ≡ suc n
@@ -108,7 +109,7 @@ both : (a b : Bool) → a && b ≡ true → (a ≡ true) × (b ≡ true)
 both true b h = (refl, h)
 both false b h = absurd (let z : _≡_ {A = ℕ} 0 1 = cc in omega arith)
 
-kinds-in : (t : ℕ → Bool) (l : List Entry) (k : ℕ) → onKinds t l ≡ true → isKindIn l k ≡ true → t k ≡ true
+pub kinds-in : (t : ℕ → Bool) (l : List Entry) (k : ℕ) → onKinds t l ≡ true → isKindIn l k ≡ true → t k ≡ true
 kinds-in t [] k h e = absurd (let z : _≡_ {A = ℕ} 0 1 = cc in omega arith)
 kinds-in t (x ∷ l) k h e = go (eqb (x .kind) k) refl e (λ i. kinds-in t l k (both (t (x .kind)) (onKinds t l) h .1) i)
   where
@@ -117,31 +118,122 @@ kinds-in t (x ∷ l) k h e = go (eqb (x .kind) k) refl e (λ i. kinds-in t l k (
     go false q e f = f e
 
 pub each-kind : (t : ℕ → Bool) (k : ℕ) → onKinds t table ≡ true → isKind k ≡ true → t k ≡ true
-unfolding isKind
 each-kind t k h e = kinds-in t table k h e
 
--- the kinds are the numbers from 1 to 10
-abbrev upTo : (ℕ → Bool) → ℕ → Bool
-upTo t zero = true
-upTo t (suc n) = t n && upTo t n
+-- entries that have the numbers from j on
+abbrev pub countsFrom : ℕ → List Entry → Bool
+countsFrom j [] = true
+countsFrom j (e ∷ l) = eqb (e .kind) j && countsFrom (suc j) l
 
-below : (t : ℕ → Bool) (n k : ℕ) → upTo t n ≡ true → k < n → t k ≡ true
-below t zero k h l = absurd (omega arith)
-below t (suc n) k h l = go (eqb k n) refl (λ g. below t n k (both (t n) (upTo t n) h .1) g)
+counted : (j : ℕ) (l : List Entry) (k : ℕ) → countsFrom j l ≡ true → isKindIn l k ≡ true → (j ≤ k) × (k < j + length l)
+counted j [] k h e = absurd (let z : _≡_ {A = ℕ} 0 1 = cc in omega arith)
+counted j (x ∷ l) k h e = let (a, b) = both (eqb (x .kind) j) (countsFrom (suc j) l) h in go (eqb (x .kind) k) refl e (eqb-true (x .kind) j a) (λ i. counted (suc j) l k b i)
   where
-    go : (z : Bool) → eqb k n ≡ z → (k < n → t k ≡ true) → t k ≡ true
-    go true q f = subst (λ (j : ℕ). t j ≡ true) (sym (eqb-true k n q)) (both (t n) (upTo t n) h .0)
-    go false q f = f (let z = eqb-false k n q in omega arith)
+    go : (z : Bool) → eqb (x .kind) k ≡ z → z || isKindIn l k ≡ true → x .kind ≡ j → (isKindIn l k ≡ true → (suc j ≤ k) × (k < suc j + length l)) → (j ≤ k) × (k < j + suc (length l))
+    go true q e a f = let b = eqb-true (x .kind) k q in (omega arith, omega arith)
+    go false q e a f = let (b, c) = f e in (omega arith, omega arith)
+
+counting : (j : ℕ) (l : List Entry) (k : ℕ) → countsFrom j l ≡ true → j ≤ k → k < j + length l → isKindIn l k ≡ true
+counting j [] k h a b = absurd (omega arith)
+counting j (x ∷ l) k h a b = let (c, d) = both (eqb (x .kind) j) (countsFrom (suc j) l) h in go (eqb (x .kind) k) refl (eqb-true (x .kind) j c) (λ e. counting (suc j) l k d e (omega arith))
+  where
+    go : (z : Bool) → eqb (x .kind) k ≡ z → x .kind ≡ j → (suc j ≤ k → isKindIn l k ≡ true) → z || isKindIn l k ≡ true
+    go true q e f = refl
+    go false q e f = f (let z = eqb-false (x .kind) k q in omega arith)
 
 agree : (a b : Bool) → (a ≡ true → b ≡ true) → (b ≡ true → a ≡ true) → a ≡ b
 agree true b f g = sym (f refl)
 agree false true f g = g refl
 agree false false f g = refl
 
-pub kinds-are : (k : ℕ) → isKind k ≡ within 1 10 k
-unfolding isKind table within
-kinds-are k = agree (isKind k) (within 1 10 k) (λ e. each-kind (within 1 10) k refl e) (λ e. asked (within 1 10 k) (isKind k) (below (λ j. not (within 1 10 j) || isKind j) 11 k refl (let z = leb-true k 10 (both (leb 1 k) (leb k 10) e .1) in omega arith)) e)
+-- where they have the numbers from 1 on, the kinds are these
+pub kinds-count : (l : List Entry) → countsFrom 1 l ≡ true → (k : ℕ) → isKindIn l k ≡ within 1 (length l) k
+unfolding within
+kinds-count l h k = agree (isKindIn l k) (leb 1 k && leb k (length l)) to from
   where
-    asked : (a b : Bool) → not a || b ≡ true → a ≡ true → b ≡ true
-    asked true b h e = h
-    asked false b h e = absurd (let z : _≡_ {A = ℕ} 0 1 = cc in omega arith)
+    to : isKindIn l k ≡ true → leb 1 k && leb k (length l) ≡ true
+    to e = let (a, b) = counted 1 l k h e in rw (le-leb 1 k a, le-leb k (length l) (omega arith))
+
+    from : leb 1 k && leb k (length l) ≡ true → isKindIn l k ≡ true
+    from e = let (a, b) = both (leb 1 k) (leb k (length l)) e in let y = leb-true k (length l) b in counting 1 l k h (leb-true 1 k a) (omega arith)
+
+-- so the kinds of document 01 are the numbers from 1 to 10
+pub kinds-are : (k : ℕ) → isKind k ≡ within 1 10 k
+unfolding table
+kinds-are k = kinds-count table refl k
+
+-- a number that is no kind has no rows
+pub no-rows : (l : List Entry) (k : ℕ) → isKindIn l k ≡ false → rowsIn l k ≡ []
+no-rows [] k h = refl
+no-rows (x ∷ l) k h = go (eqb (x .kind) k) h (λ e. no-rows l k e)
+  where
+    go : (z : Bool) → z || isKindIn l k ≡ false → (isKindIn l k ≡ false → rowsIn l k ≡ []) → cond z (x .rows) (rowsIn l k) ≡ []
+    go true e f = absurd (let z : _≡_ {A = ℕ} 0 1 = cc in omega arith)
+    go false e f = f e
+
+-- rows of which none is required with another one, or ignored
+abbrev pub plainNeed : Need → Bool
+plainNeed required = true
+plainNeed optional = true
+plainNeed (requiredWith n) = false
+plainNeed ignored = false
+
+abbrev pub plainRows : List Row → Bool
+plainRows [] = true
+plainRows (r ∷ l) = plainNeed (r .need) && plainRows l
+
+plain-settled : (has : Bytes → Bool) (n : Need) → plainNeed n ≡ true → settledNeed has n ≡ n
+plain-settled has required h = refl
+plain-settled has optional h = refl
+plain-settled has (requiredWith m) h = absurd (let z : _≡_ {A = ℕ} 0 1 = cc in omega arith)
+plain-settled has ignored h = absurd (let z : _≡_ {A = ℕ} 0 1 = cc in omega arith)
+
+-- they are the same, whatever is there
+pub settled-plain : (has : Bytes → Bool) (rows : List Row) → plainRows rows ≡ true → settled has rows ≡ rows
+settled-plain has [] h = refl
+settled-plain has (r ∷ l) h =
+    let (a, b) = both (plainNeed (r .need)) (plainRows l) h in
+    rw (plain-settled has (r .need) a, settled-plain has l b)
+
+-- a test that holds of the rows of each entry, and of none, holds of the rows of every number
+abbrev pub onRows : (List Row → Bool) → List Entry → Bool
+onRows f [] = f []
+onRows f (e ∷ l) = f (e .rows) && onRows f l
+
+pub each-rows : (f : List Row → Bool) (l : List Entry) (k : ℕ) → onRows f l ≡ true → f (rowsIn l k) ≡ true
+each-rows f [] k h = h
+each-rows f (x ∷ l) k h = let (a, b) = both (f (x .rows)) (onRows f l) h in go (eqb (x .kind) k) a (each-rows f l k b)
+  where
+    go : (c : Bool) → f (x .rows) ≡ true → f (rowsIn l k) ≡ true → f (cond c (x .rows) (rowsIn l k)) ≡ true
+    go true a b = a
+    go false a b = b
+
+-- and so are all rows of document 01
+pub plain-table : (k : ℕ) → plainRows (rowsOf k) ≡ true
+unfolding table
+plain-table k = each-rows plainRows table k refl
+
+pub settled-table : (has : Bytes → Bool) (k : ℕ) → settled has (rowsOf k) ≡ rowsOf k
+settled-table has k = settled-plain has (rowsOf k) (plain-table k)
+
+-- so an element is asked by the rows of its kind as they stand
+pub rows-table : (k : ℕ) (t : Tree) → rowsFor table k t ≡ rowsOf k
+rows-table k t = settled-table (hasAttribute t) k
+
+-- a need that is written as a flag, as every plain one can be
+pub plain-flag : (n : Need) → plainNeed n ≡ true → (opt : Bool) × (n ≡ cond opt optional required)
+plain-flag required h = (false, refl)
+plain-flag optional h = (true, refl)
+plain-flag (requiredWith m) h = absurd (let z : _≡_ {A = ℕ} 0 1 = cc in omega arith)
+plain-flag ignored h = absurd (let z : _≡_ {A = ℕ} 0 1 = cc in omega arith)
+
+pub by-flag : (opt : Bool) (f : Bool → Result) → byNeed (cond opt optional required) f ≡ f opt
+by-flag true f = refl
+by-flag false f = refl
+
+-- needs that ask the same say the same
+pub by-same : (n : Need) (f g : Bool → Result) → ((opt : Bool) → f opt ≡ g opt) → byNeed n f ≡ byNeed n g
+by-same required f g h = h false
+by-same optional f g h = h true
+by-same (requiredWith m) f g h = refl
+by-same ignored f g h = refl

@@ -5,7 +5,7 @@ use mathlib.Core.Logic.{⊎-elim}
 use Prim.Native.Nat.{ℕ, suc, _+_, _≤_, _<_}
 use native.Mathlib.Omega.{arith}
 use native.Mathlib.Numerals.{add-one}
-use lib.ListN.{length, take, drop, set, getD, length-append, length-set, length-drop, take-append-drop}
+use lib.ListN.{length, take, drop, set, getD, length-append, length-set, take-append-drop}
 use lib.Seq.{drop-cons, drop-drop, length-take-le, take-suc, take-all, drop-append-seam, take-append-seam}
 use Rattle.grammar.specs.Bytes.{Bytes}
 use Rattle.grammar.specs.Character.{utf8}
@@ -13,8 +13,10 @@ use Rattle.grammar.specs.Value.{Item, readValue}
 use Rattle.value.specs.Loose.{Loose}
 use Rattle.value.specs.Walk.{Taken, Walked, walked-start, walked-step, walked-end, walked-fail}
 use Rattle.value.specs.Units.{UnitCase, UnitSays}
-use Rattle.value.specs.Decoded.{LengthSays, Fits, Put, Decoded}
+use Rattle.value.specs.Decoded.{LengthCase, LengthSays, Put, PutInRoom, Decoded}
+use Rattle.value.specs.declared.decode.Length.{Length}
 use Rattle.value.specs.declared.decode.Length.the-variants.{Is, Not}
+use Rattle.value.proofs.Theorems.{loose-one}
 use Rattle.tags.proofs.Answers.{Fails}
 use Rattle.tags.specs.declared.Piece.{Piece}
 use Rattle.tags.specs.declared.Piece.the-variants.{Got, Open, Bad}
@@ -61,13 +63,6 @@ put-none old n h = let z : n + 0 ≡ n = omega arith in record { next = refl; by
     take-drop : (n : ℕ) (old : Bytes) → take n old ++ drop n old ≡ old
     take-drop n old = take-append-drop n old
 
-pub put-length : {old m new : Bytes} {n r : ℕ} → Put old n m new r → r ≤ length old → length new ≡ length old
-put-length {old} {m} {new} {n} {r} p h =
-    let a = p .next in
-    let b = length-take-le n old (omega arith) in
-    let c = length-drop r old in
-    ap length (p .bytes) ∙ length-append (take n old) (m ++ drop r old) ∙ (let d = length-append m (drop r old) in omega arith)
-
 pub put-more : {old m new : Bytes} {n r : ℕ} (b : ℕ) → Put old n m new r → r < length old → Put old n (m ++ b ∷ []) (set new r b) (r + 1)
 put-more {old} {m} {new} {n} {r} b p h = record { next = let a = p .next in omega (arith, length-append m (b ∷ [])); bytes = stored }
   where
@@ -111,61 +106,55 @@ putting-end {old} {m} {new} {n} {k} {r} p h e =
     let t : take k m ≡ m = take-all k m h in
     rw (t, z) at (p .put)
 
--- what was read up to i stands first
+pub put-in-room : {old m new : Bytes} {n k r : ℕ} → Putting old n m new k → length m ≤ k → r ≡ n + length m → PutInRoom old n m new r
+put-in-room p h e = record { next = e; long = p .long; put = λ l. putting-end p h e }
+
+pub no-put : (old : Bytes) (n : ℕ) (m : Bytes) {r : ℕ} → r ≡ n + length m → length old < r → PutInRoom old n m old r
+no-put old n m e h = record { next = e; long = refl; put = λ l. absurd (omega arith) }
+
+-- what was read up to i stands first, if there is room for it
 pub record Filled (src old new : Bytes) (i n : ℕ) : Type 0 where
-  pub bytes : Bytes
-  pub walked : Walked src i bytes
-  pub count : n ≡ length bytes
-  pub room : n ≤ length old
+  pub counted : Counted src i n
   pub long : length new ≡ length old
-  pub stands : new ≡ bytes ++ drop n old
+  pub stands : n ≤ length old → new ≡ counted .bytes ++ drop n old
 
 pub filled-none : (src old : Bytes) → Filled src old old 0 0
-filled-none src old = record { bytes = []; walked = walked-start src; count = refl; room = omega arith; long = refl; stands = refl }
+filled-none src old = record { counted = record { bytes = []; walked = walked-start src; count = refl }; long = refl; stands = λ h. refl }
 
--- what was read is no longer than the whole
-walked-fits : {src v : Bytes} {i room : ℕ} → Walked src i v → Fits src room → length v ≤ room
-walked-fits {src} {v} w f =
-    let (k, e, x) = w .only (f .items) (f .loose) in
-    let z = ap length (ap readValue e ∙ w .reads k x) in
-    let y = f .fits in
-    omega (arith, length-append v (readValue k))
-
-pub filled-room : {src old new : Bytes} {i n c e : ℕ} → Filled src old new i n → Taken src i c e → Fits src (length old) → n + length (utf8 c) ≤ length new
-filled-room {c = c} k t f =
-    let z = walked-fits (walked-step (k .walked) t) f in
-    let a = k .count in
-    let b = k .long in
-    omega (arith, length-append (k .bytes) (utf8 c))
-
-pub filled-more : {src old new new′ : Bytes} {i n c e r : ℕ} → Filled src old new i n → Taken src i c e → Fits src (length old) → Put new n (utf8 c) new′ r → Filled src old new′ e r
-filled-more {src} {old} {new} {new′} {i} {n} {c} {e} {r} k t f p =
-    let a = k .count in
-    let b = p .next in
-    let d = filled-room k t f in
-    let g = k .long in
-    record {
-      bytes = k .bytes ++ utf8 c;
-      walked = walked-step (k .walked) t;
-      count = rw (b, a) (sym (length-append (k .bytes) (utf8 c)));
-      room = omega arith;
-      long = put-length p (omega arith) ∙ g;
-      stands = p .bytes ∙ ap (λ (l : Bytes). l ++ (utf8 c ++ drop r new)) first ∙ ap (λ (l : Bytes). k .bytes ++ (utf8 c ++ l)) rest ∙ sym (append-assoc (k .bytes) (utf8 c) (drop r old));
-    }
+pub filled-more : {src old new new′ : Bytes} {i n c e r : ℕ} → Filled src old new i n → Taken src i c e → PutInRoom new n (utf8 c) new′ r → Filled src old new′ e r
+filled-more {src} {old} {new} {new′} {i} {n} {c} {e} {r} k t p = record {
+  counted = record { bytes = v ++ utf8 c; walked = walked-step (k .counted .walked) t; count = p .next ∙ ap (λ (m : ℕ). m + length (utf8 c)) (k .counted .count) ∙ sym (length-append v (utf8 c)) };
+  long = p .long ∙ k .long;
+  stands = λ h. all h (let b = p .next in k .stands (omega arith)) (let g = k .long in p .put (omega arith));
+}
   where
-    first : take n new ≡ k .bytes
-    first = let a = k .count in let s = k .stands in rw (s, a) (take-append-seam (k .bytes) (drop (length (k .bytes)) old))
+    v : Bytes
+    v = k .counted .bytes
 
-    kept : drop n new ≡ drop n old
-    kept = let a = k .count in let s = k .stands in rw (s, a) (drop-append-seam (k .bytes) (drop (length (k .bytes)) old))
+    all : r ≤ length old → new ≡ v ++ drop n old → Put new n (utf8 c) new′ r → new′ ≡ (v ++ utf8 c) ++ drop r old
+    all h s q =
+        let a : n ≡ length v = k .counted .count in
+        let first : take n new ≡ v = ap (take n) s ∙ ap (λ (j : ℕ). take j (v ++ drop n old)) a ∙ take-append-seam v (drop n old) in
+        let kept : drop n new ≡ drop n old = ap (drop n) s ∙ ap (λ (j : ℕ). drop j (v ++ drop n old)) a ∙ drop-append-seam v (drop n old) in
+        let rest : drop r new ≡ drop r old = ap (λ (j : ℕ). drop j new) (p .next) ∙ sym (drop-drop (length (utf8 c)) n new) ∙ ap (drop (length (utf8 c))) kept ∙ drop-drop (length (utf8 c)) n old ∙ ap (λ (j : ℕ). drop j old) (sym (p .next)) in
+        q .bytes ∙ ap (λ (l : Bytes). l ++ (utf8 c ++ drop r new)) first ∙ ap (λ (l : Bytes). v ++ (utf8 c ++ l)) rest ∙ sym (append-assoc v (utf8 c) (drop r old))
 
-    rest : drop r new ≡ drop r old
-    rest = let b = p .next in rw b (sym (drop-drop (length (utf8 c)) n new) ∙ ap (drop (length (utf8 c))) kept ∙ drop-drop (length (utf8 c)) n old)
+pub filled-end : {src old new : Bytes} {i n : ℕ} → Filled src old new i n → length src ≤ i → Decoded src old new (Is n)
+filled-end {src} {old} {new} {i} {n} k h = record { long = counted-end (k .counted) h; bytes = bytes }
+  where
+    bytes : (l : List Item) → Loose src l → length (readValue l) ≤ length old → new ≡ readValue l ++ drop (length (readValue l)) old
+    bytes l x f =
+        let (m, y, e) = walked-end (k .counted .walked) h in
+        let o : readValue l ≡ k .counted .bytes = ap readValue (loose-one x y) ∙ e in
+        let c : n ≡ length (readValue l) = k .counted .count ∙ ap length (sym o) in
+        rw (o, ← k .counted .count) (k .stands (omega arith))
 
-pub filled-end : {src old new : Bytes} {i n : ℕ} → Filled src old new i n → length src ≤ i → Decoded src old new n
-filled-end {src} {old} {new} {i} {n} k h =
-    let (l, x, e) = walked-end (k .walked) h in
-    record { items = l; loose = x; count = k .count ∙ ap length (sym e); bytes = k .stands ∙ ap (λ (v : Bytes). v ++ drop n old) (sym e) }
+pub filled-fail : {src old new : Bytes} {i n : ℕ} → Filled src old new i n → {p : Piece} → Fails p → UnitSays src i p → Decoded src old new Not
+filled-fail k f g = let z = counted-fail (k .counted) f g in record { long = z; bytes = λ l x h. absurd (z .says l x) }
 
-pub filled-fail : {X : Type 0} {src old new : Bytes} {i n room : ℕ} → Filled src old new i n → {p : Piece} → Fails p → UnitSays src i p → Fits src room → X
-filled-fail k {p} f g w = absurd (walked-fail (k .walked) (untaken p f g) (w .items) (w .loose))
+-- a length that is known, and none
+pub length-known : {w : Bytes} {l : Length} {n : ℕ} → l ≡ Is n → LengthSays w l → (k : List Item) × Loose w k × (n ≡ length (readValue k))
+length-known {w} q g = subst (λ (l : Length). LengthCase w l) q (g .says)
+
+pub no-length : {w : Bytes} {l : Length} → l ≡ Not → LengthSays w l → (k : List Item) → Loose w k → ⊥
+no-length {w} q g = subst (λ (l : Length). LengthCase w l) q (g .says)

@@ -1,42 +1,40 @@
--- A GUID is 36 bytes: what it is decoded or copied into is overwritten whole.
+-- A GUID is 36 bytes, and a version 7 at most: what they are decoded into is long enough.
 use mathlib.Core.Path.{_≡_, refl, sym, ap, subst, _∙_}
 use mathlib.Core.List.{List, [], _∷_, _++_, append-nil}
-use mathlib.Core.Bool.{Bool, true, false}
+use mathlib.Core.Bool.{Bool, true, false, cond}
 use Prim.Native.Nat.{ℕ, _+_, _≤_, _<_}
 use Prim.Native.Char.{code}
 use native.Mathlib.Omega.{arith}
 use borrow.Author.Tests.{leb-true, le-leb, eqb-true, ne-eqb}
 use lib.Dec.{leb}
-use lib.ListN.{length, set, getD, replicate, drop-of-length-le}
+use lib.ListN.{length, set, getD, take, drop, replicate, drop-of-length-le}
+use lib.Seq.{take-append-seam}
 use Rattle.exact.specs.Chain.{clash}
 use Rattle.grammar.specs.Bytes.{Bytes, within}
-use Rattle.grammar.specs.Value.{readValue}
+use Rattle.grammar.specs.Value.{Item, readValue}
 use Rattle.model.specs.Tests.{and-both}
 use Rattle.number.specs.Bytes.{and, or, hex, digit}
 use Rattle.number.specs.Guid.{Place, hexPlace, hyphenPlace, places, may, filled, guidOf}
 use Rattle.value.specs.Plain.{plainChar, plain}
-use Rattle.value.specs.Decoded.{Fits, Put, Decoded}
-use Rattle.value.specs.Numbers.{read, unread, GuidReads}
+use Rattle.value.specs.Loose.{Loose}
+use Rattle.value.specs.Decoded.{Put, Decoded}
+use Rattle.number.specs.Version.{versionOf}
+use Rattle.number.proofs.Tests.{and-left, and-right}
+use Rattle.number.proofs.VersionLaws.{too-long}
+use Rattle.value.specs.Numbers.{read, unread, GuidReads, VersionReads}
 use Rattle.value.specs.Ids.{noId, idRead, IdReads}
+use Rattle.value.specs.declared.decode.Length.{Length}
+use Rattle.value.specs.declared.decode.Length.the-variants.{Is, Not}
 use Rattle.value.specs.declared.id.Guid.{Guid}
-use Rattle.value.proofs.DecodeLaws.{Putting, putting-more, putting-end}
+use Rattle.value.proofs.DecodeLaws.{Putting, putting-more, putting-end, length-known, no-length}
 use Rattle.value.proofs.NumberLaws.{plain-read}
-use Rattle.value.proofs.Theorems.{loose-one}
-
-first : (x y : Bool) → and x y ≡ true → x ≡ true
-first true y e = refl
-first false y e = e
-
-second : (x y : Bool) → and x y ≡ true → y ≡ true
-second true y e = e
-second false y e = clash (sym e)
 
 filled-long : (ps : List Place) (v : Bytes) → filled ps v ≡ true → length v ≡ length ps
 unfolding filled
 filled-long [] [] h = refl
 filled-long [] (b ∷ v) h = clash (sym h)
 filled-long (p ∷ ps) [] h = clash (sym h)
-filled-long (p ∷ ps) (b ∷ v) h = let z = filled-long ps v (second (may p b) (filled ps v) h) in omega arith
+filled-long (p ∷ ps) (b ∷ v) h = let z = filled-long ps v (and-right (may p b) (filled ps v) h) in omega arith
 
 guid-long : (v : Bytes) → guidOf v ≡ true → length v ≡ 36
 unfolding guidOf
@@ -74,7 +72,7 @@ unfolding filled
 filled-plain [] [] h = refl
 filled-plain [] (b ∷ v) h = clash (sym h)
 filled-plain (p ∷ ps) [] h = clash (sym h)
-filled-plain (p ∷ ps) (b ∷ v) h = and-both (plainChar b) (plain v) (may-plain p b (first (may p b) (filled ps v) h)) (filled-plain ps v (second (may p b) (filled ps v) h))
+filled-plain (p ∷ ps) (b ∷ v) h = and-both (plainChar b) (plain v) (may-plain p b (and-left (may p b) (filled ps v) h)) (filled-plain ps v (and-right (may p b) (filled ps v) h))
 
 guid-plain : (v : Bytes) → guidOf v ≡ true → plain v ≡ true
 unfolding guidOf
@@ -94,39 +92,56 @@ module _ (v : Bytes) {r : Bool} (g : r ≡ guidOf v) where
   id-zeros e f = let k : guidOf v ≡ false = sym g ∙ e in rw k f
 
 -- a GUID that stands in its own letters
-module _ (v : Bytes) {r : Bool} (g : r ≡ guidOf v) (e : r ≡ true) where
-  pub guid-stands : GuidReads v true
-  guid-stands = plain-read refl (guid-plain v (sym g ∙ e)) (sym e ∙ g)
+pub guid-stands : (v : Bytes) {r : Bool} → r ≡ guidOf v → r ≡ true → GuidReads v true
+guid-stands v g e = plain-read refl (guid-plain v (sym g ∙ e)) (sym e ∙ g)
 
-  pub id-stands : {b : Bytes} → b ≡ v → IdReads v (record { there = true; bytes = b })
-  id-stands f = plain-read refl (guid-plain v (sym g ∙ e)) (id-bytes v g e f)
+-- by the id
+pub guid-there : {w : Bytes} {i : Guid} → IdReads w i → GuidReads w (i .there)
+unfolding idRead
+guid-there {w} {i} (read l x q) = read l x (ap (λ (i : Guid). i .there) q ∙ there (guidOf (readValue l)))
+  where
+    there : (t : Bool) → (cond t (record { there = true; bytes = readValue l }) noId) .there ≡ t
+    there true = refl
+    there false = refl
+guid-there (unread n q) = unread n (ap (λ (i : Guid). i .there) q)
 
--- by what was said of the raw value w
-module _ {w : Bytes} {r : Bool} (g : GuidReads w r) where
-  pub id-fits : r ≡ true → Fits w 36
-  id-fits e = go g
+-- by what was decoded
+module _ {w new : Bytes} {k : Length} (d : Decoded w (replicate 36 0) new k) where
+  pub id-unread : k ≡ Not → {i : Guid} → i ≡ noId → IdReads w i
+  id-unread q f = unread (no-length q (d .long)) f
+
+  pub id-other : {n : ℕ} → k ≡ Is n → (n ≡ 36 → ⊥) → {i : Guid} → i ≡ noId → IdReads w i
+  id-other q z f = let (l, x, e) = length-known q (d .long) in read l x (id-zeros (readValue l) refl (not-so (guidOf (readValue l)) (λ g. z (e ∙ guid-long (readValue l) g))) f)
     where
-      go : GuidReads w r → Fits w 36
-      go (read l x q) = let n = id-long (readValue l) q e in record { items = l; loose = x; fits = omega arith }
-      go (unread n q) = clash (sym e ∙ q)
+      not-so : (t : Bool) → (t ≡ true → ⊥) → t ≡ false
+      not-so true h = absurd (h refl)
+      not-so false h = refl
 
-  pub id-read : {new : Bytes} {n : ℕ} → r ≡ true → Decoded w (replicate 36 0) new n → IdReads w (record { there = true; bytes = new })
-  id-read {new} {n} e d = go g
-    where
-      go : GuidReads w r → IdReads w (record { there = true; bytes = new })
-      go (read l x q) =
-          let o : readValue (d .items) ≡ readValue l = ap readValue (loose-one (d .loose) x) in
-          let m : 36 ≤ n = let a = d .count in let b = id-long (readValue l) q e in let c = ap length o in omega arith in
-          let t : new ≡ readValue l = d .bytes ∙ ap (λ (y : Bytes). readValue (d .items) ++ y) (drop-of-length-le (replicate 36 0) m) ∙ append-nil (readValue (d .items)) ∙ o in
-          read l x (id-bytes (readValue l) q e t)
-      go (unread n q) = clash (sym e ∙ q)
+  module _ {n : ℕ} (q : k ≡ Is n) (z : n ≡ 36) where
+    same : (l : List Item) × Loose w l × (new ≡ readValue l)
+    same =
+        let (l, x, e) = length-known q (d .long) in
+        (l, x, d .bytes l x (omega arith) ∙ ap (λ (y : Bytes). readValue l ++ y) (drop-of-length-le (replicate 36 0) {i = length (readValue l)} (omega arith)) ∙ append-nil (readValue l))
 
-  pub id-none : r ≡ false → {i : Guid} → i ≡ noId → IdReads w i
-  id-none e {i} f = go g
-    where
-      go : GuidReads w r → IdReads w i
-      go (read l x q) = read l x (id-zeros (readValue l) q e f)
-      go (unread n q) = unread n f
+    pub id-read : {r : Bool} → r ≡ guidOf new → r ≡ true → IdReads w (record { there = true; bytes = new })
+    id-read g e = let (l, x, o) = same in read l x (id-bytes (readValue l) (g ∙ ap guidOf o) e o)
+
+    pub id-none : {r : Bool} → r ≡ guidOf new → r ≡ false → {i : Guid} → i ≡ noId → IdReads w i
+    id-none g e f = let (l, x, o) = same in read l x (id-zeros (readValue l) (g ∙ ap guidOf o) e f)
+
+-- a version is no longer than its decoded bytes may be
+module _ {w new : Bytes} {k : Length} (d : Decoded w (replicate 7 0) new k) where
+  pub version-unread : k ≡ Not → VersionReads w false
+  version-unread q = unread (no-length q (d .long)) refl
+
+  pub version-other : {n : ℕ} → k ≡ Is n → 7 < n → VersionReads w false
+  version-other q h = let (l, x, e) = length-known q (d .long) in read l x (sym (too-long (readValue l) (omega arith)))
+
+  pub version-read : {n : ℕ} → k ≡ Is n → n ≤ 7 → {r : Bool} → r ≡ versionOf (take n new) → VersionReads w r
+  version-read {n} q h g =
+      let (l, x, e) = length-known q (d .long) in
+      let o : take n new ≡ readValue l = ap (take n) (d .bytes l x (omega arith)) ∙ ap (λ (j : ℕ). take j (readValue l ++ drop (length (readValue l)) (replicate 7 0))) e ∙ take-append-seam (readValue l) (drop (length (readValue l)) (replicate 7 0)) in
+      read l x (g ∙ ap versionOf o)
 
 -- bytes put over as many
 module _ {old v new : Bytes} {k : ℕ} (p : Putting old 0 v new k) where

@@ -1,6 +1,6 @@
 -- What is answered of the bytes at a place, by what was found of them.
 use mathlib.Core.Path.{_≡_, refl, sym, ap, subst, _∙_}
-use mathlib.Core.List.{List, [], _∷_, _++_}
+use mathlib.Core.List.{List}
 use mathlib.Core.Logic.{_⊎_, inl, inr}
 use mathlib.Core.Bool.{Bool, true, false, _||_, not}
 use Prim.Native.Nat.{ℕ, _+_, _-_, _≤_, _<_}
@@ -13,27 +13,21 @@ use Rattle.exact.specs.Chain.{clash}
 use Rattle.grammar.specs.Bytes.{Bytes}
 use Rattle.grammar.specs.Value.{Item, readValue}
 use Rattle.value.specs.Text.{Text, asRead}
-use Rattle.value.specs.Quotes.{lacks, text-one}
+use Rattle.value.specs.Quotes.{lacks}
 use Rattle.value.specs.Loose.{Loose, text-loose, loose-text}
-use Rattle.value.specs.Decoded.{LengthCase, LengthSays, Fits, Decoded}
+use Rattle.value.specs.Decoded.{LengthSays, Decoded}
 use Rattle.value.specs.Asking.{inScratch, Told, handed, paper, Answer, no-value, stands, no-room, decoded, TextSays, absent, outside, there}
 use Rattle.value.specs.declared.decode.Length.{Length}
-use Rattle.value.specs.declared.decode.Length.the-variants.{Is, Not}
+use Rattle.value.specs.declared.decode.Length.the-variants.{Not}
 use Rattle.value.specs.declared.text.Span.{Span}
 use Rattle.value.specs.declared.text.Words.{Words}
 use Rattle.value.specs.declared.text.Words.the-variants.{Absent, Present}
 use Rattle.value.specs.declared.text.TextAt.the-variants.{InMessage, InScratch, No}
+use Rattle.value.proofs.DecodeLaws.{no-length}
 
 -- one of the quotes does not stand in w
 abbrev pub quotable : Bytes → Bool
 quotable w = lacks 34 w || lacks 39 w
-
--- a length that is known
-pub length-known : {w : Bytes} {l : Length} {n : ℕ} → l ≡ Is n → LengthSays w l → (k : List Item) × Loose w k × (n ≡ length (readValue k))
-length-known {w} q g = subst (λ (l : Length). LengthCase w l) q (g .says)
-
-no-length : {w : Bytes} {l : Length} → l ≡ Not → LengthSays w l → (k : List Item) → Loose w k → ⊥
-no-length {w} q g = subst (λ (l : Length). LengthCase w l) q (g .says)
 
 undenied : (q : Bool) → not q ≡ false → q ≡ true
 undenied true h = refl
@@ -60,16 +54,8 @@ module _ (w : Bytes) (p : Span) (old : Bytes) where
     pub answer-short : r ≡ false → {n : ℕ} → (l : List Item) × Loose w l × (n ≡ length (readValue l)) → length old < n → Answer w p old old (paper (No 7))
     answer-short b (l, x, e) s = no-room (readValue l) (quoted x) (sym a ∙ b) (omega arith) refl refl
 
-    pub answer-decoded : r ≡ false → {n : ℕ} → (l : List Item) × Loose w l × (n ≡ length (readValue l)) → n ≤ length old → {new : Bytes} {m : ℕ} → Decoded w old new m → Answer w p old new (paper (InScratch m))
-    answer-decoded b (l, x, e) s {new} {m} d =
-        let v = readValue (d .items) in
-        let t = quoted (d .loose) in
-        let o = ap length (text-one (quoted x) t) in
-        let c = d .count in
-        decoded v t (sym a ∙ b) (omega arith) (ap (λ (n : ℕ). handed (inScratch n)) c) (d .bytes ∙ ap (λ (j : ℕ). v ++ drop j old) c)
-
-pub answer-fits : {w : Bytes} {n room : ℕ} → (l : List Item) × Loose w l × (n ≡ length (readValue l)) → n ≤ room → Fits w room
-answer-fits (l, x, e) h = record { items = l; loose = x; fits = omega arith }
+    pub answer-decoded : r ≡ false → {n : ℕ} → (l : List Item) × Loose w l × (n ≡ length (readValue l)) → n ≤ length old → {new : Bytes} {m : Length} → Decoded w old new m → Answer w p old new (paper (InScratch n))
+    answer-decoded b (l, x, e) s d = decoded (readValue l) (quoted x) (sym a ∙ b) (omega arith) (ap (λ (n : ℕ). handed (inScratch n)) e) (d .bytes l x (omega arith))
 
 -- of the value
 module _ (msg : Bytes) (old : Bytes) where

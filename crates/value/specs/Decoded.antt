@@ -17,20 +17,18 @@ LengthCase w Not = (l : List Item) → Loose w l → ⊥
 pub record LengthSays (w : Bytes) (r : Length) : Type 0 where
   pub says : LengthCase w r
 
--- w is items that read as no more than `room` bytes
-pub record Fits (w : Bytes) (room : ℕ) : Type 0 where
-  pub items : List Item
-  pub loose : Loose w items
-  pub fits : length (readValue items) ≤ room
-
 -- m stands in `new` from n on, and all else is as in `old`; r is the place behind it
 pub record Put (old : Bytes) (n : ℕ) (m new : Bytes) (r : ℕ) : Type 0 where
   pub next : r ≡ n + length m
   pub bytes : new ≡ take n old ++ (m ++ drop r old)
 
--- "Decoding starts at its first byte and changes only the bytes it needs."
-pub record Decoded (w old new : Bytes) (r : ℕ) : Type 0 where
-  pub items : List Item
-  pub loose : Loose w items
-  pub count : r ≡ length (readValue items)
-  pub bytes : new ≡ readValue items ++ drop r old
+-- the same, if there is room for it in `old`
+pub record PutInRoom (old : Bytes) (n : ℕ) (m new : Bytes) (r : ℕ) : Type 0 where
+  pub next : r ≡ n + length m
+  pub long : length new ≡ length old
+  pub put : r ≤ length old → Put old n m new r
+
+-- "Decoding starts at its first byte and changes only the bytes it needs.": how many bytes w reads as, and where there is room, these bytes
+pub record Decoded (w old new : Bytes) (r : Length) : Type 0 where
+  pub long : LengthSays w r
+  pub bytes : (l : List Item) → Loose w l → length (readValue l) ≤ length old → new ≡ readValue l ++ drop (length (readValue l)) old

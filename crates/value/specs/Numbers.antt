@@ -1,5 +1,5 @@
 -- Numbers of raw values: what number's definitions say of the bytes that the value reads as.
-use mathlib.Core.Path.{_≡_, _∙_}
+use mathlib.Core.Path.{_≡_}
 use mathlib.Core.List.{List}
 use mathlib.Core.Bool.{Bool, false}
 use Rattle.grammar.specs.Bytes.{Bytes}
@@ -8,9 +8,12 @@ use Rattle.number.specs.Whole.{intOf, capped, paper}
 use Rattle.number.specs.Positive.{noNumber, numberOf, numberRead}
 use Rattle.number.specs.Guid.{guidOf}
 use Rattle.number.specs.Version.{versionOf}
+use Rattle.number.specs.Scan.{run, step, start}
 use Rattle.number.specs.declared.whole.WholeRead.{WholeRead}
 use Rattle.number.specs.declared.positive.NumberRead.{NumberRead}
 use Rattle.value.specs.Loose.{Loose}
+use Rattle.value.specs.declared.numbers.Walk.{Walk}
+use Rattle.value.specs.declared.numbers.Walk.the-variants.{Read, Unread}
 
 -- w is items, and r is what is said of the bytes they read as; or w is no items, and r is what is said of those
 pub data Reads {A : Type 0} (says : Bytes → A → Type 0) (none : A) (w : Bytes) (r : A) : Type 0 where
@@ -28,3 +31,11 @@ GuidReads w r = Reads (λ v q. q ≡ guidOf v) false w r
 
 abbrev pub VersionReads : Bytes → Bool → Type 0
 VersionReads w r = Reads (λ v q. q ≡ versionOf v) false w r
+
+-- the scan of the bytes that w reads as, or that it is no items
+abbrev pub WalkCase : Bytes → Walk → Type 0
+WalkCase w (Read s) = (l : List Item) × Loose w l × (s ≡ run step start (readValue l))
+WalkCase w Unread = (l : List Item) → Loose w l → ⊥
+
+pub record WalkSays (w : Bytes) (r : Walk) : Type 0 where
+  pub says : WalkCase w r

@@ -1,8 +1,9 @@
 // A value read as a whole: how long it reads, and its bytes into a buffer.
+ghost use mathlib.Core.Path.{_≡_};
 ghost use Prim.Native.Nat.{_+_, _≤_};
 ghost use lib.ListN.{length};
 ghost use Rattle.grammar.specs.Character.{utf8};
-ghost use Rattle.value.specs.Decoded.{LengthSays, Fits, Put, Decoded};
+ghost use Rattle.value.specs.Decoded.{LengthSays, PutInRoom, Decoded};
 use crate::units::unit;
 use crate::utf8::utf8_byte;
 use crate::utf8::utf8_len;
@@ -31,23 +32,24 @@ pub fn text_len(raw: &[u8]) -> Length
     Length::Is(n)
 }
 
-// The bytes of c from n on, and the next place.
-fn put_utf8(out: &mut [u8], n: usize, c: usize) -> usize
-    requires { ⌜ (c ≤ 0x10FFFF) × (n + length (utf8 c) ≤ length (now out)) ⌝ }
-    ensures { λ r. ⌜ Put (now (out .entry)) n (utf8 c) (now (out .exit)) r ⌝ }
+// The bytes of c from n up to `next`, if there is room for them; the next place.
+fn put_utf8(out: &mut [u8], n: usize, next: usize, c: usize) -> usize
+    requires { ⌜ (c ≤ 0x10FFFF) × (next ≡ n + length (utf8 c)) ⌝ }
+    ensures { λ r. ⌜ PutInRoom (now (out .entry)) n (utf8 c) (now (out .exit)) r ⌝ }
 {
-    let most = utf8_len(c);
+    if out.len() < next {
+        return next;
+    }
     let mut k = 0;
-    while k < most {
+    while n + k < next {
         out[n + k] = utf8_byte(c, k);
         k += 1;
     }
-    n + most
+    next
 }
 
-/// The bytes that the items read as, first in `out`; how many.
-pub fn decode(raw: &[u8], out: &mut [u8]) -> usize
-    requires { ⌜ Fits (now raw) (length (now out)) ⌝ }
+/// How many bytes the value reads as; they stand first in `out`, if there is room for them.
+pub fn decode(raw: &[u8], out: &mut [u8]) -> Length
     ensures { λ r. ⌜ Decoded (now (raw .entry)) (now (out .entry)) (now (out .exit)) r ⌝ }
 {
     let mut i = 0;
@@ -55,10 +57,11 @@ pub fn decode(raw: &[u8], out: &mut [u8]) -> usize
     while i < raw.len() {
         let p = unit(raw, i);
         let Piece::Got(c, e) = p else {
-            return n;
+            return Length::Not;
         };
-        n = put_utf8(out, n, c);
+        let next = n + utf8_len(c);
+        n = put_utf8(out, n, next, c);
         i = e;
     }
-    n
+    Length::Is(n)
 }

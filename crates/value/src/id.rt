@@ -1,9 +1,10 @@
-// The id that a value reads as.
+// Ids and versions of raw values, which are short: decoded, and then looked at.
 ghost use mathlib.Core.Path.{_≡_};
-ghost use lib.ListN.{length};
-ghost use Rattle.value.specs.Ids.{noId, idRead, IdReads};
+ghost use Rattle.value.specs.Numbers.{GuidReads, VersionReads};
+ghost use Rattle.value.specs.Ids.{noId, IdReads};
+use crate::decode::Length;
 use crate::decode::decode;
-use crate::numbers::guid_walk;
+use crate::tests::is_plain;
 
 /// An id; or none, and zeros.
 pub struct Guid {
@@ -20,40 +21,56 @@ fn no_id() -> Guid
     }
 }
 
-fn copied(v: &[u8]) -> [u8; 36]
-    requires { ⌜ length (now v) ≡ 36 ⌝ }
-    ensures { λ r. ⌜ r ≡ now (v .entry) ⌝ }
-{
-    let mut bytes = [0u8; 36];
-    let mut k = 0;
-    while k < 36 {
-        bytes[k] = v[k];
-        k += 1;
-    }
-    bytes
-}
-
-// The id, character by character.
-fn id_walk(raw: &[u8]) -> Guid
+/// The id, as the value reads.
+pub fn id_at(raw: &[u8]) -> Guid
     ensures { λ r. ⌜ IdReads (now (raw .entry)) r ⌝ }
 {
-    if guid_walk(raw) {
-        let mut bytes = [0u8; 36];
-        decode(raw, &mut bytes);
+    let mut bytes = [0u8; 36];
+    let l = decode(raw, &mut bytes);
+    let Length::Is(n) = l else {
+        return no_id();
+    };
+    if n != 36 {
+        return no_id();
+    }
+    if number::is_guid(&bytes) {
         return Guid { there: true, bytes };
     }
     no_id()
 }
 
-/// The id, as the value reads.
-pub fn id_at(raw: &[u8]) -> Guid
-    ensures { λ r. ⌜ IdReads (now (raw .entry)) r ⌝ }
+/// Whether it is a GUID, as the value reads. A GUID that stands in its own letters reads as itself.
+pub fn guid_at(raw: &[u8]) -> bool
+    ensures { λ r. ⌜ GuidReads (now (raw .entry)) r ⌝ }
 {
     if number::is_guid(raw) {
-        return Guid {
-            there: true,
-            bytes: copied(raw),
-        };
+        return true;
     }
-    id_walk(raw)
+    let g = id_at(raw);
+    g.there
+}
+
+// A Version, decoded: 3 digits before the point and 3 behind it are the longest.
+fn version_decoded(raw: &[u8]) -> bool
+    ensures { λ r. ⌜ VersionReads (now (raw .entry)) r ⌝ }
+{
+    let mut bytes = [0u8; 7];
+    let l = decode(raw, &mut bytes);
+    let Length::Is(n) = l else {
+        return false;
+    };
+    if 7 < n {
+        return false;
+    }
+    number::is_version(&bytes[..n])
+}
+
+/// Whether it is a Version, as the value reads.
+pub fn version_at(raw: &[u8]) -> bool
+    ensures { λ r. ⌜ VersionReads (now (raw .entry)) r ⌝ }
+{
+    if is_plain(raw) {
+        return number::is_version(raw);
+    }
+    version_decoded(raw)
 }

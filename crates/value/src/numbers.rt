@@ -1,25 +1,28 @@
-// Numbers of raw values, read where they stand, or character by character: no scratch is needed.
+// Numbers of raw values, scanned where they stand, or character by character: no scratch is needed.
 ghost use mathlib.Core.Path.{_≡_};
 ghost use Prim.Native.Nat.{_≤_};
 ghost use Rattle.grammar.specs.Character.{utf8};
-ghost use Rattle.number.specs.Scan.{run, intStep, numberStep, guidStep, versionStep};
-ghost use Rattle.value.specs.Numbers.{IntReads, NumberReads, GuidReads, VersionReads};
+ghost use Rattle.number.specs.Scan.{run, step};
+ghost use Rattle.value.specs.Numbers.{WalkSays, IntReads, NumberReads};
 use crate::tests::is_plain;
 use crate::units::unit;
 use crate::utf8::utf8_byte;
 use crate::utf8::utf8_len;
-use number::GuidScan;
-use number::IntScan;
 use number::NumberRead;
-use number::NumberScan;
-use number::VersionScan;
+use number::Scan;
 use number::WholeRead;
 use tags::Piece;
 
-// The state after the bytes of the character c.
-fn int_char(from: IntScan, c: usize) -> IntScan
+/// The scan of what a value reads as, or that the bytes are no items.
+pub enum Walk {
+    Read(Scan),
+    Unread,
+}
+
+// The scan after the bytes of the character c.
+fn char_step(from: Scan, c: usize) -> Scan
     requires { ⌜ c ≤ 0x10FFFF ⌝ }
-    ensures { λ r. ⌜ r ≡ run intStep from (utf8 c) ⌝ }
+    ensures { λ r. ⌜ r ≡ run step from (utf8 c) ⌝ }
 {
     let most = utf8_len(c);
     let mut s = from;
@@ -31,21 +34,21 @@ fn int_char(from: IntScan, c: usize) -> IntScan
     s
 }
 
-// An Int, character by character.
-fn int_walk(raw: &[u8]) -> WholeRead
-    ensures { λ r. ⌜ IntReads (now (raw .entry)) r ⌝ }
+// The scan, character by character.
+fn walked(raw: &[u8]) -> Walk
+    ensures { λ r. ⌜ WalkSays (now (raw .entry)) r ⌝ }
 {
-    let mut s = IntScan::start();
+    let mut s = Scan::start();
     let mut i = 0;
     while i < raw.len() {
         let p = unit(raw, i);
         let Piece::Got(c, e) = p else {
-            return WholeRead::Bad;
+            return Walk::Unread;
         };
-        s = int_char(s, c);
+        s = char_step(s, c);
         i = e;
     }
-    s.end()
+    Walk::Read(s)
 }
 
 /// An Int, as the value reads.
@@ -55,42 +58,11 @@ pub fn int_at(raw: &[u8]) -> WholeRead
     if is_plain(raw) {
         return number::int_of(raw);
     }
-    int_walk(raw)
-}
-
-// The state after the bytes of the character c.
-fn number_char(from: NumberScan, c: usize) -> NumberScan
-    requires { ⌜ c ≤ 0x10FFFF ⌝ }
-    ensures { λ r. ⌜ r ≡ run numberStep from (utf8 c) ⌝ }
-{
-    let most = utf8_len(c);
-    let mut s = from;
-    let mut k = 0;
-    while k < most {
-        s = s.step(utf8_byte(c, k));
-        k += 1;
-    }
-    s
-}
-
-// A positive number, character by character.
-fn number_walk(raw: &[u8]) -> NumberRead
-    ensures { λ r. ⌜ NumberReads (now (raw .entry)) r ⌝ }
-{
-    let mut s = NumberScan::start();
-    let mut i = 0;
-    while i < raw.len() {
-        let p = unit(raw, i);
-        let Piece::Got(c, e) = p else {
-            return NumberRead {
-                ok: false,
-                millionths: 0,
-            };
-        };
-        s = number_char(s, c);
-        i = e;
-    }
-    s.end()
+    let w = walked(raw);
+    let Walk::Read(s) = w else {
+        return WholeRead::Bad;
+    };
+    number::int_end(s)
 }
 
 /// A positive number, as the value reads.
@@ -100,89 +72,12 @@ pub fn number_at(raw: &[u8]) -> NumberRead
     if is_plain(raw) {
         return number::number_of(raw);
     }
-    number_walk(raw)
-}
-
-// The state after the bytes of the character c.
-fn guid_char(from: GuidScan, c: usize) -> GuidScan
-    requires { ⌜ c ≤ 0x10FFFF ⌝ }
-    ensures { λ r. ⌜ r ≡ run guidStep from (utf8 c) ⌝ }
-{
-    let most = utf8_len(c);
-    let mut s = from;
-    let mut k = 0;
-    while k < most {
-        s = s.step(utf8_byte(c, k));
-        k += 1;
-    }
-    s
-}
-
-/// Whether it is a GUID, character by character.
-pub fn guid_walk(raw: &[u8]) -> bool
-    ensures { λ r. ⌜ GuidReads (now (raw .entry)) r ⌝ }
-{
-    let mut s = GuidScan::start();
-    let mut i = 0;
-    while i < raw.len() {
-        let p = unit(raw, i);
-        let Piece::Got(c, e) = p else {
-            return false;
+    let w = walked(raw);
+    let Walk::Read(s) = w else {
+        return NumberRead {
+            ok: false,
+            millionths: 0,
         };
-        s = guid_char(s, c);
-        i = e;
-    }
-    s.end()
-}
-
-/// Whether it is a GUID, as the value reads. A GUID that stands in its own letters reads as itself.
-pub fn guid_at(raw: &[u8]) -> bool
-    ensures { λ r. ⌜ GuidReads (now (raw .entry)) r ⌝ }
-{
-    if number::is_guid(raw) {
-        return true;
-    }
-    guid_walk(raw)
-}
-
-// The state after the bytes of the character c.
-fn version_char(from: VersionScan, c: usize) -> VersionScan
-    requires { ⌜ c ≤ 0x10FFFF ⌝ }
-    ensures { λ r. ⌜ r ≡ run versionStep from (utf8 c) ⌝ }
-{
-    let most = utf8_len(c);
-    let mut s = from;
-    let mut k = 0;
-    while k < most {
-        s = s.step(utf8_byte(c, k));
-        k += 1;
-    }
-    s
-}
-
-// Whether it is a Version, character by character.
-fn version_walk(raw: &[u8]) -> bool
-    ensures { λ r. ⌜ VersionReads (now (raw .entry)) r ⌝ }
-{
-    let mut s = VersionScan::start();
-    let mut i = 0;
-    while i < raw.len() {
-        let p = unit(raw, i);
-        let Piece::Got(c, e) = p else {
-            return false;
-        };
-        s = version_char(s, c);
-        i = e;
-    }
-    s.end()
-}
-
-/// Whether it is a Version, as the value reads.
-pub fn version_at(raw: &[u8]) -> bool
-    ensures { λ r. ⌜ VersionReads (now (raw .entry)) r ⌝ }
-{
-    if is_plain(raw) {
-        return number::is_version(raw);
-    }
-    version_walk(raw)
+    };
+    number::number_end(s)
 }

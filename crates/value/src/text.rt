@@ -42,8 +42,8 @@ fn text_of(w: &[u8], p: Span, scratch: &mut [u8]) -> TextAt
     if scratch.len() < n {
         return TextAt::No(7);
     }
-    let m = decode(w, scratch);
-    TextAt::InScratch(m)
+    decode(w, scratch);
+    TextAt::InScratch(n)
 }
 
 /// Where the text of the value t of the message is; what must be decoded is written first in `scratch`.

@@ -43,7 +43,7 @@ pub bit-small : (a : ℕ) → a % 2 < 2
 bit-small a = mod-lt a (lit< tt)
 
 abbrev listed : ℕ → ℕ → ℕ → Bytes
-listed x y z = flagged x (nameAt 25 20) ++ (flagged y (nameAt 26 21) ++ flagged z (nameAt 27 20))
+listed x y z = flagged x (nameAt 0 20) ++ (flagged y (nameAt 1 21) ++ flagged z (nameAt 2 20))
 
 listed-is : (bits : ℕ) → featuresIn bits ≡ listed (bits % 2) (bits / 2 % 2) (bits / 4 % 2)
 unfolding featuresIn featuresBy flagged names
@@ -70,11 +70,11 @@ some-both (b ∷ x) y = refl
 
 some-listed : (x y z : ℕ) → (x + y + z ≡ 0 → ⊥) → nonEmpty (listed x y z) ≡ true
 some-listed x y z n =
-    some-both (flagged x (nameAt 25 20)) (flagged y (nameAt 26 21) ++ flagged z (nameAt 27 20))
-    ∙ ap (λ (b : Bool). nonEmpty (flagged x (nameAt 25 20)) || b) (some-both (flagged y (nameAt 26 21)) (flagged z (nameAt 27 20)))
-    ∙ ap (λ (b : Bool). b || (nonEmpty (flagged y (nameAt 26 21)) || nonEmpty (flagged z (nameAt 27 20)))) (some-flag x (nameAt 25 20))
-    ∙ ap (λ (b : Bool). isThere x || (b || nonEmpty (flagged z (nameAt 27 20)))) (some-flag y (nameAt 26 21))
-    ∙ ap (λ (b : Bool). isThere x || (isThere y || b)) (some-flag z (nameAt 27 20))
+    some-both (flagged x (nameAt 0 20)) (flagged y (nameAt 1 21) ++ flagged z (nameAt 2 20))
+    ∙ ap (λ (b : Bool). nonEmpty (flagged x (nameAt 0 20)) || b) (some-both (flagged y (nameAt 1 21)) (flagged z (nameAt 2 20)))
+    ∙ ap (λ (b : Bool). b || (nonEmpty (flagged y (nameAt 1 21)) || nonEmpty (flagged z (nameAt 2 20)))) (some-flag x (nameAt 0 20))
+    ∙ ap (λ (b : Bool). isThere x || (b || nonEmpty (flagged z (nameAt 2 20)))) (some-flag y (nameAt 1 21))
+    ∙ ap (λ (b : Bool). isThere x || (isThere y || b)) (some-flag z (nameAt 2 20))
     ∙ any x y z n
   where
     any : (x y z : ℕ) → (x + y + z ≡ 0 → ⊥) → isThere x || (isThere y || isThere z) ≡ true
@@ -102,12 +102,12 @@ pub features-none : (n : Bytes) (bits : ℕ) → bits % 2 + bits / 2 % 2 + bits 
 features-none n bits e = ap (closed n) (listed-is bits ∙ none-listed (bits % 2) (bits / 2 % 2) (bits / 4 % 2) e)
 
 pub features-are : (n : Bytes) (bits : ℕ) → (bits % 2 + bits / 2 % 2 + bits / 4 % 2 ≡ 0 → ⊥)
-    → Made (closed n (featuresIn bits)) (text ">" ∷ flagged (bits % 2) (nameAt 25 20) ∷ flagged (bits / 2 % 2) (nameAt 26 21) ∷ flagged (bits / 4 % 2) (nameAt 27 20) ∷ endTag n ∷ [])
+    → Made (closed n (featuresIn bits)) (text ">" ∷ flagged (bits % 2) (nameAt 0 20) ∷ flagged (bits / 2 % 2) (nameAt 1 21) ∷ flagged (bits / 4 % 2) (nameAt 2 20) ∷ endTag n ∷ [])
 features-are n bits h = record {
   is =
       ap (closed n) (listed-is bits)
       ∙ closed-filled n (listed (bits % 2) (bits / 2 % 2) (bits / 4 % 2)) (some-listed (bits % 2) (bits / 2 % 2) (bits / 4 % 2) h)
-      ∙ ap (λ (y : Bytes). text ">" ++ y) (regroup (flagged (bits % 2) (nameAt 25 20)) (flagged (bits / 2 % 2) (nameAt 26 21)) (flagged (bits / 4 % 2) (nameAt 27 20)) (endTag n));
+      ∙ ap (λ (y : Bytes). text ">" ++ y) (regroup (flagged (bits % 2) (nameAt 0 20)) (flagged (bits / 2 % 2) (nameAt 1 21)) (flagged (bits / 4 % 2) (nameAt 2 20)) (endTag n));
 }
   where
     regroup : (a b c e : Bytes) → (a ++ (b ++ c)) ++ e ≡ a ++ (b ++ (c ++ (e ++ [])))

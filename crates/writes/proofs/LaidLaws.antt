@@ -13,14 +13,14 @@ use Rattle.value.specs.declared.id.Guid.{Guid}
 use Rattle.value.specs.declared.text.Words.the-variants.{Absent as NoWords, Present as IsWords}
 use Rattle.table.specs.Table.{Row, Form, words, someWords, whole, guid, version, positive, features}
 use Rattle.table.specs.Says.{Result, refused, without, BAD}
+use Rattle.table.specs.Theorems.{by-same}
 use Rattle.message.specs.Fields.{Field, none, aWords, aWhole, aMeasure, aGuid, aFeatures, noFeatures}
-use Rattle.message.specs.Cells.{isThere, bit, wordsBy, wholeBy, measureBy, guidBy, featuresBy, fieldBy, cellAt, fieldsFrom, flag, wordsCell, wholeCell, measureCell, guidCell, featuresCell, cellOf, cellsOf}
+use Rattle.message.specs.Cells.{isThere, bit, wordsBy, wholeBy, measureBy, guidBy, featuresBy, fieldBy, cellAt, fieldsFrom, flag, wordsCell, wholeCell, measureCell, guidCell, featuresCell, cellOf, cellsOf, bytesIn}
 use Rattle.message.specs.declared.values.Whole.the-variants.{Absent as NoWhole, Present as IsWhole}
 use Rattle.message.specs.declared.values.Measure.the-variants.{Absent as NoMeasure, Present as IsMeasure}
 use Rattle.message.specs.declared.values.Features.{Features}
-use Rattle.meant.specs.Meant.{idMeant, featuresMeant, meantBy, meantOf}
+use Rattle.meant.specs.Meant.{idMeant, featuresMeant, meantAs, meantBy, meantOf}
 use Rattle.meant.specs.Written.{attribute, attributeOf, attributesOf, closed, featuresInside, childOf, childrenOf}
-use Rattle.structs.specs.Laid.{bytesIn}
 
 -- the sort of value that a form asks for, and that a field is
 abbrev sortOf : Form → ℕ
@@ -81,22 +81,25 @@ bares [] = []
 bares (x ∷ l) = bare x ∷ bares l
 
 -- it means the same, and is written the same
-meant-bare : (r : Row) (x : Field) (texts : Bytes) → meantBy r (bare x) texts ≡ meantBy r x texts
-unfolding meantBy
-meant-bare r none texts = refl
-meant-bare r (aWords w) texts = refl
-meant-bare r (aWhole w) texts = refl
-meant-bare r (aMeasure w) texts = refl
-meant-bare r (aGuid g) texts = go (g .there) (g .bytes)
+as-bare : (t : Form) (x : Field) (texts : Bytes) (o : Bool) → meantAs t (bare x) texts o ≡ meantAs t x texts o
+as-bare t none texts o = refl
+as-bare t (aWords w) texts o = refl
+as-bare t (aWhole w) texts o = refl
+as-bare t (aMeasure w) texts o = refl
+as-bare t (aGuid g) texts o = go (g .there) (g .bytes)
   where
-    go : (b : Bool) (v : Bytes) → meantBy r (aGuid (cond b (record { there = b; bytes = v }) noId)) texts ≡ cond b (idMeant (r .form) v) (without (r .optional))
+    go : (b : Bool) (v : Bytes) → meantAs t (aGuid (cond b (record { there = b; bytes = v }) noId)) texts o ≡ cond b (idMeant t v) (without o)
     go true v = refl
     go false v = refl
-meant-bare r (aFeatures f) texts = go (f .there) (f .forecast) (f .query) (f .send)
+as-bare t (aFeatures f) texts o = go (f .there) (f .forecast) (f .query) (f .send)
   where
-    go : (b x y z : Bool) → meantBy r (aFeatures (cond b (record { there = b; forecast = x; query = y; send = z }) noFeatures)) texts ≡ cond b (featuresMeant (r .form) (record { there = b; forecast = x; query = y; send = z })) (without (r .optional))
+    go : (b x y z : Bool) → meantAs t (aFeatures (cond b (record { there = b; forecast = x; query = y; send = z }) noFeatures)) texts o ≡ cond b (featuresMeant t (record { there = b; forecast = x; query = y; send = z })) (without o)
     go true x y z = refl
     go false x y z = refl
+
+meant-bare : (r : Row) (x : Field) (texts : Bytes) → meantBy r (bare x) texts ≡ meantBy r x texts
+unfolding meantBy
+meant-bare r x texts = by-same (r .need) (meantAs (r .form) (bare x) texts) (meantAs (r .form) x texts) (as-bare (r .form) x texts)
 
 attribute-bare : (n : Bytes) (x : Field) (texts : Bytes) → attributeOf n (bare x) texts ≡ attributeOf n x texts
 unfolding attributeOf

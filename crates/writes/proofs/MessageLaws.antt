@@ -16,7 +16,8 @@ use Rattle.table.specs.Table.{Row, table, isKind, rowsOf}
 use Rattle.table.specs.Theorems.{onKinds, each-kind}
 use Rattle.message.specs.Cells.{fieldsFrom}
 use Rattle.meant.specs.Written.{attributesOf, closed, childrenOf, nameOf}
-use Rattle.meant.proofs.SizeLaws.{message-long, most-largest}
+use Rattle.meant.proofs.MessageLaws.{refusal-table, written-by-table}
+use Rattle.meant.proofs.SizeLaws.{LARGEST, message-long, most-largest}
 use Rattle.rows.specs.Coding.{KINDS, WIDTH, kindNames, kinds, rowsFrom, RowsAt}
 use Rattle.rows.specs.declared.data.Range.{Range}
 use Rattle.writes.specs.Rows.{startTag, refusalFrom, attributesFrom, childrenFrom, writtenFrom}
@@ -31,7 +32,7 @@ abbrev onLine : ℕ → Bool
 onLine k = same (nameOf k) (lineOf k kindNames kinds) && (leb 1 k && (leb k KINDS && leb ((k - 1) * WIDTH + getD kinds k 0 % 256) (length kindNames)))
 
 all-lines : onKinds onLine table ≡ true
-unfolding kindNames kinds table nameOf
+unfolding kindNames kinds table
 all-lines = refl
 
 module _ {letters : Bytes} {coding : List ℕ} (el : letters ≡ kindNames) (ec : coding ≡ kinds) (k : ℕ) (h : isKind k ≡ true) where
@@ -63,7 +64,8 @@ pub message-is : (k : ℕ) (cells : List ℕ) (id texts : Bytes) {n : Bytes} {r 
 unfolding writtenFrom attributesFrom
 message-is k cells id texts {n} {r} en er = record {
   is =
-      ap (λ (y : Bytes). text "<Hermes>" ++ y)
+      written-by-table k (fieldsFrom (rowsOf k) 0 cells id) texts
+      ∙ ap (λ (y : Bytes). text "<Hermes>" ++ y)
       (regroup (nameOf k) (attributesFrom (rowsOf k) 0 cells id texts) (closed (nameOf k) (childrenOf (rowsOf k) (fieldsFrom (rowsOf k) 0 cells id))) (text "</Hermes>")
       ∙ ap (λ (y : Bytes). startTag (nameOf k) ++ (attributesFrom (rowsOf k) 0 cells id texts ++ (closed (nameOf k) y ++ (text "</Hermes>" ++ [])))) (children-same (rowsOf k) 0 cells id)
       ∙ ap (λ (l : List Row). startTag (nameOf k) ++ (attributesFrom l 0 cells id texts ++ (closed (nameOf k) (childrenFrom l 0 cells) ++ (text "</Hermes>" ++ [])))) (er .all)
@@ -72,10 +74,10 @@ message-is k cells id texts {n} {r} en er = record {
 
 -- each answer
 module _ (k : ℕ) (cells : List ℕ) (id texts : Bytes) where
-  pub small : {r : ℕ} → r ≡ refusalFrom (rowsOf k) 0 cells id texts → r ≡ 0 → isKind k ≡ true → length (writtenFrom k cells id texts) ≤ 5933
+  pub small : {r : ℕ} → r ≡ refusalFrom (rowsOf k) 0 cells id texts → r ≡ 0 → isKind k ≡ true → length (writtenFrom k cells id texts) ≤ LARGEST
   unfolding writtenFrom refusalFrom
   small e z i =
-      let x = message-long k (fieldsFrom (rowsOf k) 0 cells id) texts (sym e ∙ z) in
+      let x = message-long table k (fieldsFrom (rowsOf k) 0 cells id) texts (refusal-table k (fieldsFrom (rowsOf k) 0 cells id) texts ∙ sym e ∙ z) in
       let y = most-largest k i in
       omega arith
 

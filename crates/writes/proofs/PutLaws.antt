@@ -10,8 +10,8 @@ use Rattle.exact.specs.Chain.{clash}
 use Rattle.grammar.specs.Bytes.{Bytes, text}
 use Rattle.printing.specs.Digits.{printInt}
 use Rattle.printing.proofs.PieceLaws.{join, Made}
-use Rattle.writing.specs.Written.{escape, printDecimal}
-use Rattle.writing.proofs.Theorems.{int-as-is, decimal-as-is}
+use Rattle.spelling.specs.Written.{escape, printDecimal}
+use Rattle.spelling.proofs.Theorems.{int-as-is, decimal-as-is}
 use Rattle.table.specs.Table.{Form, words, someWords, whole, guid, version, positive, features}
 use Rattle.message.specs.Cells.{isThere, wordsBy, wholeBy, measureBy, guidBy, featuresBy, fieldBy}
 use Rattle.meant.specs.Meant.{textAt}

@@ -10,9 +10,9 @@ use lib.Dec.{leb}
 use borrow.Author.Tests.{le-leb, lt-leb, leb-true}
 use Rattle.grammar.specs.Bytes.{Bytes, nonEmpty}
 use Rattle.number.specs.Version.{versionOf}
-use Rattle.writing.specs.Characters.{TextSays}
-use Rattle.writing.specs.Decided.{isText}
-use Rattle.writing.proofs.Theorems.{text-only, text-decided}
+use Rattle.spelling.specs.Characters.{TextSays}
+use Rattle.spelling.specs.Decided.{isText}
+use Rattle.spelling.proofs.Theorems.{text-only, text-decided}
 use Rattle.value.specs.declared.text.Span.{Span}
 use Rattle.table.specs.Table.{words, someWords, version}
 use Rattle.table.specs.Says.{aText, refused, TOO_LONG, when, refusalIn}

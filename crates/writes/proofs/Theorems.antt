@@ -11,7 +11,7 @@ use Rattle.table.specs.Says.{saidOf}
 use Rattle.message.specs.Cells.{fieldsFrom}
 use Rattle.message.specs.declared.kinds.Message.{Message}
 use Rattle.meant.specs.Meant.{meantOf, refusalOf}
-use Rattle.meant.proofs.MessageLaws.{message-back}
+use Rattle.meant.proofs.MessageLaws.{refusal-table, message-back}
 use Rattle.writes.specs.Rows.{refusalFrom, writtenFrom}
 use Rattle.writes.specs.Writes.{Writes, CellsWritten}
 use Rattle.writes.specs.declared.messages.Written.{Written}
@@ -36,4 +36,4 @@ pub cells-read-back : (k : ℕ) (cells : List ℕ) (id texts : Bytes) → isKind
     × (saidOf t .refusal ≡ 0)
     × (saidOf t .values ≡ meantOf (rowsOf k) (fieldsFrom (rowsOf k) 0 cells id) texts)
 unfolding writtenFrom refusalFrom
-cells-read-back k cells id texts i h = let x = message-back k (fieldsFrom (rowsOf k) 0 cells id) texts i h in (x .reading, x .is-message, x .kind, x .refusal, x .values)
+cells-read-back k cells id texts i h = let x = message-back k (fieldsFrom (rowsOf k) 0 cells id) texts i (refusal-table k (fieldsFrom (rowsOf k) 0 cells id) texts ∙ h) in (x .reading, x .is-message, x .kind, x .refusal, x .values)

@@ -9,11 +9,12 @@ use Rattle.number.specs.Guid.{guidOf}
 use Rattle.value.specs.declared.text.Words.the-variants.{Absent as NoWords, Present as IsWords}
 use Rattle.table.specs.Table.{Row, Form, words, someWords, whole, guid, version, positive, features}
 use Rattle.table.specs.Says.{Value, anInt, millionths, anId, noted, present, when, without, refusalIn}
-use Rattle.message.specs.Fields.{aWords, aWhole, aMeasure, aGuid, aFeatures}
+use Rattle.table.specs.Theorems.{by-flag}
+use Rattle.message.specs.Fields.{Field, aWords, aWhole, aMeasure, aGuid, aFeatures}
 use Rattle.message.specs.Cells.{isThere, bit, wordsBy, wholeBy, measureBy, guidBy, featuresBy, fieldBy}
 use Rattle.message.specs.declared.values.Whole.the-variants.{Absent as NoWhole, Present as IsWhole}
 use Rattle.message.specs.declared.values.Measure.the-variants.{Absent as NoMeasure, Present as IsMeasure}
-use Rattle.meant.specs.Meant.{MOST, textMeant, meantBy}
+use Rattle.meant.specs.Meant.{MOST, textMeant, meantAs, meantBy}
 use Rattle.rows.specs.Coding.{formIn, rowOf}
 use Rattle.rows.specs.declared.data.Row.{Row as Coded}
 use Rattle.writes.specs.Rows.{spanOf, rowRefusal}
@@ -21,20 +22,25 @@ use Rattle.writes.specs.Rows.{spanOf, rowRefusal}
 pub is-there : (t : ℕ) → (t ≡ 0 → ⊥) → isThere t ≡ true
 is-there t n = ap not (ne-eqb t 0 n)
 
+-- a row of the code has a flag for its need
+flagged : (c : Coded) (x : Field) (texts : Bytes) → refusalIn (meantBy (rowOf c) x texts) ≡ refusalIn (meantAs (rowOf c .form) x texts (eqb (c .need) 1))
+unfolding meantBy
+flagged c x texts = ap refusalIn (by-flag (eqb (c .need) 1) (meantAs (rowOf c .form) x texts))
+
 -- not there
-none-worth : (F : Form) (n : Bytes) (o : Bool) (a b : ℕ) (id texts : Bytes) → refusalIn (meantBy (record { name = n; form = F; optional = o }) (fieldBy F 0 a b id) texts) ≡ refusalIn (without o)
-unfolding meantBy fieldBy wordsBy wholeBy measureBy guidBy featuresBy
-none-worth (words k) n o a b id texts = refl
-none-worth (someWords k) n o a b id texts = refl
-none-worth (whole lo hi) n o a b id texts = refl
-none-worth guid n o a b id texts = refl
-none-worth version n o a b id texts = refl
-none-worth positive n o a b id texts = refl
-none-worth features n o a b id texts = refl
+none-worth : (F : Form) (o : Bool) (a b : ℕ) (id texts : Bytes) → refusalIn (meantAs F (fieldBy F 0 a b id) texts o) ≡ refusalIn (without o)
+unfolding fieldBy wordsBy wholeBy measureBy guidBy featuresBy
+none-worth (words k) o a b id texts = refl
+none-worth (someWords k) o a b id texts = refl
+none-worth (whole lo hi) o a b id texts = refl
+none-worth guid o a b id texts = refl
+none-worth version o a b id texts = refl
+none-worth positive o a b id texts = refl
+none-worth features o a b id texts = refl
 
 pub worth-absent : (c : Coded) (t a b : ℕ) (id texts : Bytes) {r : ℕ} → t ≡ 0 → r ≡ refusalIn (without (eqb (c .need) 1)) → r ≡ rowRefusal c t a b id texts
 unfolding rowRefusal
-worth-absent c t a b id texts e h = h ∙ sym (ap (λ (t : ℕ). refusalIn (meantBy (rowOf c) (fieldBy (rowOf c .form) t a b id) texts)) e ∙ none-worth (rowOf c .form) (rowOf c .name) (rowOf c .optional) a b id texts)
+worth-absent c t a b id texts e h = h ∙ sym (ap (λ (t : ℕ). refusalIn (meantBy (rowOf c) (fieldBy (rowOf c .form) t a b id) texts)) e ∙ flagged c (fieldBy (rowOf c .form) 0 a b id) texts ∙ none-worth (rowOf c .form) (eqb (c .need) 1) a b id texts)
 
 -- there
 abbrev pub worthOf : Form → ℕ → ℕ → Bytes → Bytes → ℕ
@@ -50,19 +56,19 @@ by-when : (g : Bool) (v : Value) → refusalIn (when g v) ≡ cond g 0 6
 by-when true v = refl
 by-when false v = refl
 
-there-worth : (F : Form) (n : Bytes) (o : Bool) (t a b : ℕ) (id texts : Bytes) → isThere t ≡ true → refusalIn (meantBy (record { name = n; form = F; optional = o }) (fieldBy F t a b id) texts) ≡ worthOf F a b id texts
-unfolding meantBy fieldBy wordsBy wholeBy measureBy guidBy featuresBy
-there-worth (words k) n o t a b id texts h = rw h refl
-there-worth (someWords k) n o t a b id texts h = rw h refl
-there-worth (whole lo hi) n o t a b id texts h = rw h (by-when (within lo hi a) (anInt a))
-there-worth guid n o t a b id texts h = rw h (by-when (guidOf id) (anId id))
-there-worth version n o t a b id texts h = rw h refl
-there-worth positive n o t a b id texts h = rw h (by-when (within 1 MOST a) (millionths a))
-there-worth features n o t a b id texts h = rw h refl
+there-worth : (F : Form) (o : Bool) (t a b : ℕ) (id texts : Bytes) → isThere t ≡ true → refusalIn (meantAs F (fieldBy F t a b id) texts o) ≡ worthOf F a b id texts
+unfolding fieldBy wordsBy wholeBy measureBy guidBy featuresBy
+there-worth (words k) o t a b id texts h = rw h refl
+there-worth (someWords k) o t a b id texts h = rw h refl
+there-worth (whole lo hi) o t a b id texts h = rw h (by-when (within lo hi a) (anInt a))
+there-worth guid o t a b id texts h = rw h (by-when (guidOf id) (anId id))
+there-worth version o t a b id texts h = rw h refl
+there-worth positive o t a b id texts h = rw h (by-when (within 1 MOST a) (millionths a))
+there-worth features o t a b id texts h = rw h refl
 
 pub said : (c : Coded) (t a b : ℕ) (id texts : Bytes) {r : ℕ} (F : Form) → (t ≡ 0 → ⊥) → rowOf c .form ≡ F → r ≡ worthOf F a b id texts → r ≡ rowRefusal c t a b id texts
 unfolding rowRefusal
-said c t a b id texts F n e h = h ∙ ap (λ (F : Form). worthOf F a b id texts) (sym e) ∙ sym (there-worth (rowOf c .form) (rowOf c .name) (rowOf c .optional) t a b id texts (is-there t n))
+said c t a b id texts F n e h = h ∙ ap (λ (F : Form). worthOf F a b id texts) (sym e) ∙ sym (flagged c (fieldBy (rowOf c .form) t a b id) texts ∙ there-worth (rowOf c .form) (eqb (c .need) 1) t a b id texts (is-there t n))
 
 -- the form of a number
 pub form-is : (c : Coded) (k : ℕ) → c .form ≡ k → rowOf c .form ≡ formIn k (c .low) (c .high)

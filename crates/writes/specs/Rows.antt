@@ -4,7 +4,7 @@ use mathlib.Core.Bool.{cond}
 use Prim.Native.Nat.{ℕ}
 use Rattle.grammar.specs.Bytes.{Bytes, text}
 use Rattle.printing.specs.Digits.{printInt}
-use Rattle.writing.specs.Written.{escape, printDecimal}
+use Rattle.spelling.specs.Written.{escape, printDecimal}
 use Rattle.value.specs.declared.text.Span.{Span}
 use Rattle.table.specs.Table.{Row, Form, words, someWords, whole, guid, version, positive, features, rowsOf}
 use Rattle.table.specs.Says.{refusalIn}

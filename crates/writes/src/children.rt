@@ -9,7 +9,6 @@ ghost use Rattle.message.specs.Cells.{isThere};
 ghost use Rattle.meant.specs.Written.{closed};
 ghost use Rattle.rows.specs.Coding.{numbers as coding, names as letters, rowsFrom, nameAt, ROWS as MANY, LINES, WIDTH, MOST};
 ghost use Rattle.writes.specs.Rows.{flagged, featuresIn, childBytes, childrenFrom};
-use crate::cells::cell;
 use crate::marks::put_empty;
 use crate::marks::put_end;
 use crate::marks::put_start;
@@ -18,6 +17,7 @@ use rows::data::Range;
 use rows::data::Row;
 use rows::data::name_at;
 use rows::data::row_at;
+use structs::cell;
 
 // An empty tag of the name on that line, if it is there.
 fn put_flag(out: &mut [u8], at: usize, names: &[u8], there: u64, line: usize, len: usize) -> usize
@@ -44,9 +44,9 @@ fn put_features(out: &mut [u8], at: usize, names: &[u8], name: &[u8], bits: u64)
         return put_empty(out, at);
     }
     let a = put_byte(out, at, b'>');
-    let b = put_flag(out, a, names, forecast, 25, 20);
-    let c = put_flag(out, b, names, query, 26, 21);
-    let d = put_flag(out, c, names, send, 27, 20);
+    let b = put_flag(out, a, names, forecast, 0, 20);
+    let c = put_flag(out, b, names, query, 1, 21);
+    let d = put_flag(out, c, names, send, 2, 20);
     put_end(out, d, name)
 }
 

@@ -4,7 +4,7 @@ ghost use mathlib.Core.Bool.{true};
 ghost use Rattle.printing.specs.Put.{Countable, Wrote};
 ghost use Rattle.table.specs.Table.{isKind};
 ghost use Rattle.meant.specs.Written.{nameOf};
-ghost use Rattle.rows.specs.Coding.{numbers as coding, kinds as kindCoding, kindNames as kindLetters};
+ghost use Rattle.rows.specs.Coding.{numbers as coding, names as letters, kinds as kindCoding, kindNames as kindLetters};
 ghost use Rattle.writes.specs.Rows.{writtenFrom};
 ghost use Rattle.writes.specs.Writes.{CellsWritten};
 use crate::children::put_inside;
@@ -49,24 +49,22 @@ fn kind_name<'a>(names: &'a [u8], kinds: &[u64], kind: u8) -> &'a [u8]
 // The message from the first byte on, as far as it fits; its whole length.
 fn put_message(
     out: &mut [u8],
+    name: &[u8],
+    names: &[u8],
     numbers: &[u64],
     kind: u8,
     cells: &[u64],
     id: &[u8],
     texts: &[u8],
 ) -> usize
-    requires { ⌜ (now numbers ≡ coding) × (isKind kind ≡ true) × Countable 0 (writtenFrom kind (now cells) (now id) (now texts)) ⌝ }
+    requires { ⌜ (now name ≡ nameOf kind) × (now names ≡ letters) × (now numbers ≡ coding) × Countable 0 (writtenFrom kind (now cells) (now id) (now texts)) ⌝ }
     ensures { λ r. ⌜ Wrote (now (out .entry)) 0 (writtenFrom kind (now (cells .entry)) (now (id .entry)) (now (texts .entry))) (now (out .exit)) r ⌝ }
 {
-    let names = NAMES;
-    let kind_names = KIND_NAMES;
-    let kinds = KINDS;
-    let name = kind_name(&kind_names, &kinds, kind);
     let range = rows_of(kind);
     let a = put(out, 0, &ROOT);
     let b = put_start(out, a, name);
-    let c = put_rows(out, b, &names, numbers, range, cells, id, texts);
-    let d = put_inside(out, c, &names, numbers, range, cells, name);
+    let c = put_rows(out, b, names, numbers, range, cells, id, texts);
+    let d = put_inside(out, c, names, numbers, range, cells, name);
     put(out, d, &ROOT_END)
 }
 
@@ -95,22 +93,35 @@ pub fn write_cells(kind: u8, cells: &[u64], id: &[u8], texts: &[u8], out: &mut [
             count: 0,
         };
     }
+    let names = NAMES;
+    let kind_names = KIND_NAMES;
+    let kinds = KINDS;
+    let name = kind_name(&kind_names, &kinds, kind);
     if LARGEST <= out.len() {
-        let n = put_message(out, &numbers, kind, cells, id, texts);
+        let n = put_message(out, name, &names, &numbers, kind, cells, id, texts);
         return Written {
             refusal: 0,
             count: n,
         };
     }
     let mut measured = [0u8; 1];
-    let n = put_message(&mut measured, &numbers, kind, cells, id, texts);
+    let n = put_message(
+        &mut measured,
+        name,
+        &names,
+        &numbers,
+        kind,
+        cells,
+        id,
+        texts,
+    );
     if out.len() < n {
         return Written {
             refusal: 7,
             count: 0,
         };
     }
-    let n = put_message(out, &numbers, kind, cells, id, texts);
+    let n = put_message(out, name, &names, &numbers, kind, cells, id, texts);
     Written {
         refusal: 0,
         count: n,

@@ -4,7 +4,6 @@ ghost use Prim.Native.Nat.{_+_, _≤_, _<_};
 ghost use Rattle.printing.specs.Put.{Countable, Wrote};
 ghost use Rattle.rows.specs.Coding.{numbers as coding, names as letters, rowOf, rowsFrom, ROWS as MANY, LINES, WIDTH, MOST};
 ghost use Rattle.writes.specs.Rows.{formValue, rowBytes, attributesFrom};
-use crate::cells::cell;
 use crate::texts::part;
 use printing::put;
 use printing::put_byte;
@@ -13,9 +12,10 @@ use rows::data::Range;
 use rows::data::Row;
 use rows::data::name_at;
 use rows::data::row_at;
+use spelling::put_decimal;
+use spelling::put_escaped;
+use structs::cell;
 use value::Span;
-use writing::put_decimal;
-use writing::put_escaped;
 
 // What stands between the quotes.
 fn put_value(out: &mut [u8], at: usize, row: Row, a: u64, b: u64, id: &[u8], texts: &[u8]) -> usize

@@ -1,5 +1,6 @@
 // Messages as structs: laid into cells, and refused or written as these.
 ghost use mathlib.Core.Path.{_≡_};
+ghost use Rattle.message.specs.Cells.{messageBy};
 ghost use Rattle.meant.specs.Meant.{refusalOf};
 ghost use Rattle.writes.specs.Writes.{Writes};
 use crate::messages::Written;
@@ -10,16 +11,23 @@ use rows::data::NUMBERS;
 use structs::id_of;
 use structs::lay;
 
+/// 4, 5 or 6 by the first row of the kind that refuses these cells, or 0.
+pub fn refusal_of_cells(kind: u8, cells: &[u64], id: &[u8], texts: &[u8]) -> u8
+    ensures { λ r. ⌜ r ≡ refusalOf (messageBy kind (now (cells .entry)) (now (id .entry))) (now (texts .entry)) ⌝ }
+{
+    let numbers = NUMBERS;
+    refusal_of_rows(&numbers, kind, cells, id, texts)
+}
+
 /// 4, 5 or 6 by the first row that refuses, or 0. Kinds without rows are not refused here.
 pub fn refusal_of(m: Message, texts: &[u8]) -> u8
     ensures { λ r. ⌜ r ≡ refusalOf m (now (texts .entry)) ⌝ }
 {
-    let numbers = NUMBERS;
     let mut cells = [0u64; 72];
     lay(m, &mut cells);
     let id = id_of(m);
     let kind = m.kind;
-    refusal_of_rows(&numbers, kind, &cells, &id, texts)
+    refusal_of_cells(kind, &cells, &id, texts)
 }
 
 /// Writes a message, whose texts are parts of `texts`, first into the buffer. 4, 5, 6 as the first row in table order refuses it; 8 for a kind

@@ -1,11 +1,15 @@
 -- By the refusal: nothing, a Notification, a reply.
-use Rattle.handover.proofs.ReceiveLaws.{wrote-nothing-yet, wrote-notice, wrote-reply, wrote-no-reply}
+use Rattle.handover.proofs.ReceiveLaws.{answers-nothing-yet, answers-notice, answers-reply, answers-none}
 use borrow.Author.Needs.{needs}
 use Rattle.handover.proofs.receiving.answer.Statement.{statement}
 use Rattle.handover.proofs.receiving.answer.Tie as tie
+use Rattle.handover.proofs.receiving.answer.Reads as reads
+use Rattle.handover.proofs.receiving.answer.Lts as lts
+use Rattle.written_back.proofs.reply.Reads as reply-reads
+use Rattle.written_back.proofs.notify.Reads as notify-reads
 
 returns : tie.Need-returns
-returns c = wrote-nothing-yet (c .before .before .before .args .s .now) (c .before .before .before .args .m) (c .before .before .before .args .refusal) (c .before .before .before .args .out .now) (c .if1 .taken)
+returns c = answers-nothing-yet (c .before .before .before .args .out .now) (c .if1 .taken)
 
 notify-requires : tie.Need-notify-requires
 notify-requires c κs = search needs
@@ -14,10 +18,7 @@ same-length : tie.Need-same-length
 same-length c = search needs
 
 returns-2 : tie.Need-returns-2
-returns-2 c = wrote-notice (c .before .before .before .before .before .before .before .before .args .s .now) (c .before .before .before .before .before .before .before .before .args .m) (c .before .before .before .before .before .before .before .before .args .refusal) (c .before .before .before .before .before .if1 .left) (c .before .before .before .before .if2 .taken) (c .before .before .notify .ensures)
-
-asks-reply-requires : tie.Need-asks-reply-requires
-asks-reply-requires c κs = search needs
+returns-2 c = answers-notice (c .before .before .before .before .before .if1 .left) (c .before .before .before .before .if2 .taken) (c .before .before .notify .ensures)
 
 reply-requires : tie.Need-reply-requires
 reply-requires c κs = search needs
@@ -26,10 +27,10 @@ same-length-2 : tie.Need-same-length-2
 same-length-2 c = search needs
 
 returns-3 : tie.Need-returns-3
-returns-3 c = wrote-reply (c .before .before .before .before .before .before .before .before .before .before .before .args .s .now) (c .before .before .before .before .before .before .before .before .before .before .before .args .m) (c .before .before .before .before .before .before .before .before .before .before .before .args .refusal) (c .before .before .before .before .before .before .before .if2 .left) (c .before .before .before .before .before .before .asks-reply .ensures) (c .before .before .before .before .before .if3 .taken) (c .before .before .before .before .before .before .before .before .before .before .before .pre) (c .before .before .reply .ensures)
+returns-3 c = answers-reply (c .before .before .before .before .before .if2 .left) (c .before .before .before .before .if3 .taken) (c .before .before .before .before .before .before .before .before .before .pre) (c .before .before .reply .ensures)
 
 returns-4 : tie.Need-returns-4
-returns-4 c = wrote-no-reply (c .before .before .before .before .before .before .args .s .now) (c .before .before .before .before .before .before .args .m) (c .before .before .before .before .before .before .args .refusal) (c .before .before .before .before .before .before .args .out .now) (c .before .before .if2 .left) (c .before .asks-reply .ensures) (c .if3 .left)
+returns-4 c = answers-none (c .before .before .before .before .before .args .out .now) (c .before .if2 .left) (c .if3 .left)
 
 pub answer-spec : {M : Type 1} → statement M
 answer-spec =
@@ -39,7 +40,6 @@ answer-spec =
     notify-requires
     same-length
     returns-2
-    asks-reply-requires
     reply-requires
     same-length-2
     returns-3

@@ -1,47 +1,38 @@
--- What was checked, moved and written, put together.
-use Rattle.handover.proofs.SoundLaws.{check-sound}
-use Rattle.handover.proofs.ReceiveLaws.{is-no-room, is-told}
+-- The struct that the cells are.
+use Rattle.handover.proofs.ReceiveLaws.{received-as}
 use borrow.Author.Needs.{needs}
 use Rattle.handover.proofs.receiving.receive.Statement.{statement}
 use Rattle.handover.proofs.receiving.receive.Tie as tie
+use Rattle.handover.proofs.receiving.receive.Reads as reads
+use Rattle.handover.proofs.receiving.receive.Lts as lts
+use Rattle.handover.proofs.receiving.receive_into.Reads as receive-into-reads
+use Rattle.structs.proofs.message_of.Reads as message-of-reads
 
-check-requires : tie.Need-check-requires
-check-requires c κs = search needs
+slice-aggregate-receive-into : tie.Need-slice-aggregate-receive-into
+slice-aggregate-receive-into c = search needs
 
-moved-by-requires : tie.Need-moved-by-requires
-moved-by-requires c κs = search needs
+receive-into-requires : tie.Need-receive-into-requires
+receive-into-requires c κs = search needs
 
-answer-requires : tie.Need-answer-requires
-answer-requires c κs = check-sound (c .before .before .before .check .ensures)
+slice-aggregate-message-of : tie.Need-slice-aggregate-message-of
+slice-aggregate-message-of c = search needs
 
-no-room-requires : tie.Need-no-room-requires
-no-room-requires c κs = search needs
+message-of-requires : tie.Need-message-of-requires
+message-of-requires c κs = search needs
 
 same-length : tie.Need-same-length
 same-length c = search needs
 
 returns : tie.Need-returns
-returns c = is-no-room (c .before .before .before .before .before .before .before .before .before .before .before .before .args .lane) (c .before .before .before .before .before .before .before .before .before .check .ensures) (c .before .before .before .before .before .before .before .moved-by .ensures) (c .before .before .before .before .before .answer .ensures) (c .before .if1 .taken) (c .no-room .ensures)
-
-told-requires : tie.Need-told-requires
-told-requires c κs = search needs
-
-same-length-2 : tie.Need-same-length-2
-same-length-2 c = search needs
-
-returns-2 : tie.Need-returns-2
-returns-2 c = is-told (c .before .before .before .before .before .before .before .before .before .before .before .before .args .lane) (c .before .before .before .before .before .before .before .before .before .check .ensures) (c .before .before .before .before .before .before .before .moved-by .ensures) (c .before .before .before .before .before .answer .ensures) (c .before .if1 .left) (c .told .ensures)
+returns c = received-as (c .before .before .before .before .before .before .before .receive-into .ensures) (c .message-of .ensures)
 
 pub receive-spec : {M : Type 1} → statement M
 receive-spec =
     tie.close
     (tie.spec
-    check-requires
-    moved-by-requires
-    answer-requires
-    no-room-requires
+    slice-aggregate-receive-into
+    receive-into-requires
+    slice-aggregate-message-of
+    message-of-requires
     same-length
-    returns
-    told-requires
-    same-length-2
-    returns-2)
+    returns)

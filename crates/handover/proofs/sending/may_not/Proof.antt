@@ -3,15 +3,18 @@ use Rattle.handover.proofs.SendLaws.{refused-first, refused-then}
 use borrow.Author.Needs.{needs}
 use Rattle.handover.proofs.sending.may_not.Statement.{statement}
 use Rattle.handover.proofs.sending.may_not.Tie as tie
+use Rattle.handover.proofs.sending.may_not.Reads as reads
+use Rattle.handover.proofs.sending.may_not.Lts as lts
+use Rattle.writes.proofs.refusal_of_cells.Reads as refusal-of-cells-reads
 
-refusal-of-requires : tie.Need-refusal-of-requires
-refusal-of-requires c κs = search needs
+refusal-of-cells-requires : tie.Need-refusal-of-cells-requires
+refusal-of-cells-requires c κs = search needs
 
 returns : tie.Need-returns
-returns c = refused-first (c .before .before .before .args .m) (c .before .before .before .args .texts .now) (c .before .refusal-of .ensures) (c .if1 .taken)
+returns c = refused-first _ _ (c .before .refusal-of-cells .ensures) (c .if1 .taken)
 
 returns-2 : tie.Need-returns-2
-returns-2 c = refused-then (c .before .before .before .args .m) (c .before .before .before .args .texts .now) (c .before .refusal-of .ensures) (c .if1 .left)
+returns-2 c = refused-then _ _ (c .before .refusal-of-cells .ensures) (c .if1 .left)
 
 pub may-not-spec : {M : Type 1} → statement M
-may-not-spec = tie.close (tie.spec refusal-of-requires returns returns-2)
+may-not-spec = tie.close (tie.spec refusal-of-cells-requires returns returns-2)

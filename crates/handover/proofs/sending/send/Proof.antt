@@ -1,56 +1,43 @@
--- Each answer in the order that document 01 gives.
-use mathlib.Core.Path.{ap, _∙_}
-use Rattle.lane.specs.Record.{sent}
-use Rattle.handover.proofs.SendLaws.{is-not-sent, is-refused, is-sent}
+-- As the message that its cells are.
+use Rattle.handover.proofs.SendLaws.{sends-again}
 use borrow.Author.Needs.{needs}
 use Rattle.handover.proofs.sending.send.Statement.{statement}
 use Rattle.handover.proofs.sending.send.Tie as tie
+use Rattle.handover.proofs.sending.send.Reads as reads
+use Rattle.handover.proofs.sending.send.Lts as lts
+use Rattle.handover.proofs.sending.send_from.Reads as send-from-reads
+use Rattle.structs.proofs.id_of.Reads as id-of-reads
+use Rattle.structs.proofs.lay.Reads as lay-reads
 
-event-of-requires : tie.Need-event-of-requires
-event-of-requires c κs = search needs
+slice-aggregate-lay : tie.Need-slice-aggregate-lay
+slice-aggregate-lay c = search needs
 
-sent-requires : tie.Need-sent-requires
-sent-requires c κs = search needs
+lay-requires : tie.Need-lay-requires
+lay-requires c κs = search needs
 
-may-not-requires : tie.Need-may-not-requires
-may-not-requires c κs = search needs
+id-of-requires : tie.Need-id-of-requires
+id-of-requires c κs = search needs
 
-kept-requires : tie.Need-kept-requires
-kept-requires c κs = search needs
+slice-aggregate-send-from : tie.Need-slice-aggregate-send-from
+slice-aggregate-send-from c = search needs
 
-returns : tie.Need-returns
-returns c = is-not-sent (c .before .before .before .before .before .before .before .before .args .lane) (c .before .before .before .before .before .before .before .before .args .m) (c .before .before .before .before .before .before .before .before .args .texts .now) (c .before .before .before .before .sent .ensures ∙ ap (sent (c .before .before .before .before .before .before .before .before .args .lane)) (c .before .before .before .before .before .event-of .ensures)) (c .before .before .if1 .taken) (c .before .may-not .ensures) (c .kept .ensures)
-
-write-requires : tie.Need-write-requires
-write-requires c κs = search needs
-
-kept-requires-2 : tie.Need-kept-requires-2
-kept-requires-2 c κs = search needs
+send-from-requires : tie.Need-send-from-requires
+send-from-requires c κs = search needs
 
 same-length : tie.Need-same-length
 same-length c = search needs
 
-returns-2 : tie.Need-returns-2
-returns-2 c = is-refused (c .before .before .before .before .before .before .before .before .before .before .before .before .before .args .lane) (c .before .before .before .before .before .before .before .before .before .before .before .before .before .args .m) (c .before .before .before .before .before .before .before .before .before .before .before .before .before .args .texts .now) (c .before .before .before .before .before .before .before .before .before .sent .ensures ∙ ap (sent (c .before .before .before .before .before .before .before .before .before .before .before .before .before .args .lane)) (c .before .before .before .before .before .before .before .before .before .before .event-of .ensures)) (c .before .before .before .before .before .before .before .if1 .left) (c .before .before .before .before .before .write .ensures) (c .before .if2 .taken) (c .kept2 .ensures)
-
-same-length-2 : tie.Need-same-length-2
-same-length-2 c = search needs
-
-returns-3 : tie.Need-returns-3
-returns-3 c = is-sent (c .before .before .before .before .before .before .before .before .before .before .before .before .before .args .lane) (c .before .before .before .before .before .before .before .before .before .before .before .before .before .args .m) (c .before .before .before .before .before .before .before .before .before .before .before .before .before .args .texts .now) (c .before .before .before .before .before .before .before .before .before .sent .ensures ∙ ap (sent (c .before .before .before .before .before .before .before .before .before .before .before .before .before .args .lane)) (c .before .before .before .before .before .before .before .before .before .before .event-of .ensures)) (c .before .before .before .before .before .before .before .if1 .left) (c .before .before .before .before .before .write .ensures) (c .before .if2 .left)
+returns : tie.Need-returns
+returns c = sends-again (c .before .before .before .before .before .before .before .before .before .before .before .args .lane) (c .before .before .before .before .before .before .before .before .before .before .before .args .m) (c .before .before .before .before .before .before .before .before .before .before .before .args .texts .now) (c .before .before .before .before .before .before .before .lay .ensures) (c .before .before .before .before .before .id-of .ensures) (c .before .before .send-from .ensures)
 
 pub send-spec : {M : Type 1} → statement M
 send-spec =
     tie.close
     (tie.spec
-    event-of-requires
-    sent-requires
-    may-not-requires
-    kept-requires
-    returns
-    write-requires
-    kept-requires-2
+    slice-aggregate-lay
+    lay-requires
+    id-of-requires
+    slice-aggregate-send-from
+    send-from-requires
     same-length
-    returns-2
-    same-length-2
-    returns-3)
+    returns)

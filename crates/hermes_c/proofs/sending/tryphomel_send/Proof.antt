@@ -1,20 +1,44 @@
--- What was sent, in numbers.
+-- The message that the numbers are.
+use mathlib.Core.Path.{refl}
+use Rattle.structs.proofs.NumberLaws.{in-numbers}
 use Rattle.hermes_c.proofs.SendLaws.{sends-as}
 use borrow.Author.Needs.{needs}
 use Rattle.hermes_c.proofs.sending.tryphomel_send.Statement.{statement}
 use Rattle.hermes_c.proofs.sending.tryphomel_send.Tie as tie
+use Rattle.hermes_c.proofs.sending.tryphomel_send.Reads as reads
+use Rattle.hermes_c.proofs.sending.tryphomel_send.Lts as lts
+use Rattle.handover.proofs.send_from.Reads as send-from-reads
+use Rattle.structs.proofs.kind_in.Reads as kind-in-reads
 
-message-in-requires : tie.Need-message-in-requires
-message-in-requires c κs = search needs
+kind-in-requires : tie.Need-kind-in-requires
+kind-in-requires c κs = search needs
 
-send-requires : tie.Need-send-requires
-send-requires c κs = search needs
+sub-send-from : tie.Need-sub-send-from
+sub-send-from c = search needs
+
+part-send-from-start : tie.Need-part-send-from-start
+part-send-from-start c = search needs
+
+part-send-from-end : tie.Need-part-send-from-end
+part-send-from-end c = search needs
+
+send-from-requires : tie.Need-send-from-requires
+send-from-requires c κs = search needs
 
 same-length : tie.Need-same-length
 same-length c = search needs
 
 returns : tie.Need-returns
-returns c = sends-as (c .before .before .before .before .before .before .before .message-in .ensures) (c .before .before .before .before .before .send .ensures)
+returns c = sends-as (in-numbers _ _ (c .before .before .before .before .before .before .before .before .before .before .kind-in .ensures .1) (c .before .before .before .before .before .before .before .before .before .before .kind-in .ensures .0) refl) (c .before .before .before .before .before .send-from .ensures)
 
 pub tryphomel-send-spec : {M : Type 1} → statement M
-tryphomel-send-spec = tie.close (tie.spec message-in-requires send-requires same-length returns)
+tryphomel-send-spec =
+    tie.close
+    (tie.spec
+    kind-in-requires
+    sub-send-from
+    part-send-from-start
+    part-send-from-end
+    send-from-requires
+    same-length
+    returns)

@@ -1,32 +1,29 @@
--- `is_guid` is the definition on every slice: the loop keeps the state after the bytes passed, and the end of it is exact.
-use Rattle.number.specs.declared.guid.GuidScan.{GuidScan}
+-- `is_guid` is the definition on every slice: the rest of the bytes must fill the rest of the places.
 use native.Mathlib.Omega.{arith}
-use mathlib.Core.Path.{ap, _∙_}
+use borrow.Author.Tests.{not-true, not-false}
 use Prim.Native.Nat.{_-_}
 use lib.ListN.{length}
-use Rattle.number.specs.Scan.{guidStart, guidStep, guidEnd}
-use Rattle.number.proofs.Theorems.{guid-exact}
-use Rattle.number.proofs.CodeLaws.{Passed, passed-none, passed-more, passed-all}
+use Rattle.number.proofs.GuidLaws.{Stands, stands-none, stands-more, stands-not, stands-end}
 use Rattle.number.proofs.guid.is_guid.Statement.{statement}
 use Rattle.number.proofs.guid.is_guid.Tie as tie
 
 abbrev Inv-loop : tie.InvT-loop
-Inv-loop v s₀ i₀ s i = Passed GuidScan guidStep guidStart v i s
+Inv-loop v i₀ i = Stands v i
 
 abbrev μ-loop : tie.MeasureT-loop
-μ-loop v s₀ i₀ s i = length v - i
-
-start-requires : tie.Need-start-requires Inv-loop μ-loop
-start-requires c κs = tt
+μ-loop v i₀ i = length v - i
 
 loop-holds : tie.Need-loop-holds Inv-loop μ-loop
-loop-holds c = passed-none guidStep guidStart (c .before .before .args .v .now) (c .start .ensures)
+loop-holds c = stands-none _
 
-shared-slice-read-step : tie.Need-shared-slice-read-step Inv-loop μ-loop
-shared-slice-read-step c = omega arith
+shared-slice-read-may-stand : tie.Need-shared-slice-read-may-stand Inv-loop μ-loop
+shared-slice-read-may-stand c = omega arith
 
-step-requires : tie.Need-step-requires Inv-loop μ-loop
-step-requires c κs = tt
+may-stand-requires : tie.Need-may-stand-requires Inv-loop μ-loop
+may-stand-requires c κs = tt
+
+returns : tie.Need-returns Inv-loop μ-loop
+returns c = stands-not _ (c .before .before .before .before .loop .inv) (c .before .before .before .loop-test .taken) (c .before .may-stand .ensures) (not-true _ (c .if1 .taken))
 
 add-i : tie.Need-add-i Inv-loop μ-loop
 add-i c = omega arith
@@ -35,13 +32,10 @@ loop-less : tie.Need-loop-less Inv-loop μ-loop
 loop-less c = omega arith
 
 loop-again : tie.Need-loop-again Inv-loop μ-loop
-loop-again c = passed-more guidStep guidStart (c .before .before .before .before .before .before .args .v .now) (c .before .before .before .loop .i) (c .before .before .before .loop .s) (c .step .result) (c .before .before .before .loop .inv) (c .before .before .loop-test .taken) (c .step .ensures)
+loop-again c = stands-more _ (c .before .before .before .before .loop .inv) (c .before .before .before .loop-test .taken) (c .before .may-stand .ensures) (not-false _ (c .if1 .left))
 
-end-requires : tie.Need-end-requires Inv-loop μ-loop
-end-requires c κs = tt
-
-returns : tie.Need-returns Inv-loop μ-loop
-returns c = c .end .ensures ∙ ap (λ (x : GuidScan). guidEnd x) (passed-all guidStep guidStart (c .before .before .before .before .before .args .v .now) (c .before .before .loop .i) (c .before .before .loop .s) (c .before .before .loop .inv) (c .before .loop-test .left)) ∙ guid-exact (c .before .before .before .before .before .args .v .now)
+returns-2 : tie.Need-returns-2 Inv-loop μ-loop
+returns-2 c = stands-end _ (c .before .loop .inv) (c .loop-test .left)
 
 pub is-guid-spec : {M : Type 1} → statement M
 is-guid-spec =
@@ -49,12 +43,11 @@ is-guid-spec =
     (tie.spec
     Inv-loop
     μ-loop
-    start-requires
     loop-holds
-    shared-slice-read-step
-    step-requires
+    shared-slice-read-may-stand
+    may-stand-requires
+    returns
     add-i
     loop-less
     loop-again
-    end-requires
-    returns)
+    returns-2)

@@ -5,7 +5,7 @@ use mathlib.Core.Path.{_∙_}
 use mathlib.Core.Bool.{true}
 use mathlib.Core.List.{[], _∷_}
 use Rattle.number.proofs.Classes.{ranged-but, keyed}
-use Rattle.number.proofs.CodeLaws.{hyphenAt, hexAt, may-hyphen, may-hex, may-none}
+use Rattle.number.proofs.GuidLaws.{hyphenAt, hexAt, may-hyphen, may-hex, may-none}
 use Rattle.number.proofs.guid.may_stand.Statement.{statement}
 use Rattle.number.proofs.guid.may_stand.Tie as tie
 

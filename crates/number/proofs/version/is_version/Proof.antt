@@ -1,60 +1,64 @@
--- `is_version` is the definition on every slice: the loop keeps the state after the bytes passed, and the end of it is exact.
-use Rattle.number.specs.declared.version.VersionScan.{VersionScan}
+-- `is_version` is the definition on every slice: the digits end at a point, and those behind it at the end.
+use borrow.Author.Needs.{needs}
 use native.Mathlib.Omega.{arith}
-use mathlib.Core.Path.{ap, _∙_}
-use Prim.Native.Nat.{_-_}
-use lib.ListN.{length}
-use Rattle.number.specs.Scan.{versionStart, versionStep, versionEnd}
-use Rattle.number.proofs.Theorems.{version-exact}
-use Rattle.number.proofs.CodeLaws.{Passed, passed-none, passed-more, passed-all}
+use mathlib.Core.Path.{sym, _∙_}
+use Rattle.number.proofs.VersionLaws.{no-more, no-point, rest-not, grouped, ungrouped}
 use Rattle.number.proofs.version.is_version.Statement.{statement}
 use Rattle.number.proofs.version.is_version.Tie as tie
 
-abbrev Inv-loop : tie.InvT-loop
-Inv-loop v s₀ i₀ s i = Passed VersionScan versionStep versionStart v i s
+digits-end-requires : tie.Need-digits-end-requires
+digits-end-requires c κs = search needs
 
-abbrev μ-loop : tie.MeasureT-loop
-μ-loop v s₀ i₀ s i = length v - i
+returns : tie.Need-returns
+returns c = no-more _ (c .before .digits-end .ensures) (c .if1 .taken)
 
-start-requires : tie.Need-start-requires Inv-loop μ-loop
-start-requires c κs = tt
+shared-slice-read-if2 : tie.Need-shared-slice-read-if2
+shared-slice-read-if2 c = omega arith
 
-loop-holds : tie.Need-loop-holds Inv-loop μ-loop
-loop-holds c = passed-none versionStep versionStart (c .before .before .args .v .now) (c .start .ensures)
+returns-2 : tie.Need-returns-2
+returns-2 c = no-point _ (c .before .before .before .digits-end .ensures) (c .before .before .if1 .left) (c .if2 .taken)
 
-shared-slice-read-step : tie.Need-shared-slice-read-step Inv-loop μ-loop
-shared-slice-read-step c = omega arith
+add-digits-end : tie.Need-add-digits-end
+add-digits-end c = omega arith
 
-step-requires : tie.Need-step-requires Inv-loop μ-loop
-step-requires c κs = tt
+digits-end-requires-2 : tie.Need-digits-end-requires-2
+digits-end-requires-2 c κs = search needs
 
-add-i : tie.Need-add-i Inv-loop μ-loop
-add-i c = omega arith
+returns-3 : tie.Need-returns-3
+returns-3 c = rest-not _ (c .before .before .before .before .before .digits-end .ensures) (c .before .before .before .before .if1 .left) (c .before .before .if2 .left) (c .before .digits-end2 .ensures) (c .if3 .taken)
 
-loop-less : tie.Need-loop-less Inv-loop μ-loop
-loop-less c = omega arith
+is-group-requires : tie.Need-is-group-requires
+is-group-requires c κs = search needs
 
-loop-again : tie.Need-loop-again Inv-loop μ-loop
-loop-again c = passed-more versionStep versionStart (c .before .before .before .before .before .before .args .v .now) (c .before .before .before .loop .i) (c .before .before .before .loop .s) (c .step .result) (c .before .before .before .loop .inv) (c .before .before .loop-test .taken) (c .step .ensures)
+sub-is-group : tie.Need-sub-is-group
+sub-is-group c = let z = c .before .before .before .digits-end2 .ensures in omega arith
 
-end-requires : tie.Need-end-requires Inv-loop μ-loop
-end-requires c κs = tt
+sub-is-group-2 : tie.Need-sub-is-group-2
+sub-is-group-2 c = let z = c .before .before .before .digits-end2 .ensures in omega arith
 
-returns : tie.Need-returns Inv-loop μ-loop
-returns c = c .end .ensures ∙ ap (λ (x : VersionScan). versionEnd x) (passed-all versionStep versionStart (c .before .before .before .before .before .args .v .now) (c .before .before .loop .i) (c .before .before .loop .s) (c .before .before .loop .inv) (c .before .loop-test .left)) ∙ version-exact (c .before .before .before .before .before .args .v .now)
+is-group-requires-2 : tie.Need-is-group-requires-2
+is-group-requires-2 c κs = search needs
+
+returns-4 : tie.Need-returns-4
+returns-4 c = grouped _ (c .before .before .before .before .before .before .before .before .digits-end .ensures) (c .before .before .before .before .before .before .before .if1 .left) (c .before .before .before .before .before .if2 .left) (c .before .before .before .before .digits-end2 .ensures) (c .before .before .before .if3 .left) (sym (c .before .before .is-group .ensures) ∙ c .before .if4 .taken) (c .is-group2 .ensures)
+
+returns-5 : tie.Need-returns-5
+returns-5 c = ungrouped _ (c .before .before .before .before .before .before .before .digits-end .ensures) (c .before .before .before .before .before .before .if1 .left) (c .before .before .before .before .if2 .left) (c .before .before .before .digits-end2 .ensures) (sym (c .before .is-group .ensures) ∙ c .if4 .left)
 
 pub is-version-spec : {M : Type 1} → statement M
 is-version-spec =
     tie.close
     (tie.spec
-    Inv-loop
-    μ-loop
-    start-requires
-    loop-holds
-    shared-slice-read-step
-    step-requires
-    add-i
-    loop-less
-    loop-again
-    end-requires
-    returns)
+    digits-end-requires
+    returns
+    shared-slice-read-if2
+    returns-2
+    add-digits-end
+    digits-end-requires-2
+    returns-3
+    is-group-requires
+    sub-is-group
+    sub-is-group-2
+    is-group-requires-2
+    returns-4
+    returns-5)

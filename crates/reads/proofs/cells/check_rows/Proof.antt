@@ -4,7 +4,7 @@ use Prim.Native.Nat.{_+_, _-_}
 use native.Mathlib.Omega.{arith}
 use Rattle.rows.specs.Coding.{Sound}
 use Rattle.rows.specs.declared.data.Row.{Row as Coded}
-use Rattle.rows.proofs.CodingLaws.{row-sound}
+use Rattle.rows.proofs.CodingLaws.{few-rows, row-sound}
 use Rattle.reads.specs.Kept.{Rowed}
 use Rattle.reads.proofs.TableLaws.{room}
 use Rattle.reads.proofs.LoopLaws.{Going, loop-starts, loop-goes-on, loop-ends}
@@ -24,7 +24,7 @@ loop-holds : tie.Need-loop-holds Inv-loop μ-loop
 loop-holds c = loop-starts (c .before .before .before .before .before .before .args .s .now) (c .before .before .before .before .before .before .args .table .now) (c .before .before .before .before .before .before .args .count) (c .before .before .before .before .before .before .args .inside) (c .rows-of .result .from) (c .rows-of .result .count) (c .before .before .before .before .before .before .args .cells .now)
 
 add-row-at : tie.Need-add-row-at Inv-loop μ-loop
-add-row-at c = let w = c .before .before .rows-of .ensures .within in let u = c .loop-test .taken in omega arith
+add-row-at c = let w = c .before .before .rows-of .ensures .within in let u = c .loop-test .taken in omega (arith, few-rows)
 
 row-at-requires : tie.Need-row-at-requires Inv-loop μ-loop
 row-at-requires c κs = let w = c .before .before .rows-of .ensures .within in let u = c .loop-test .taken in (c .before .before .before .before .before .before .before .before .pre .1, omega arith)

@@ -5,16 +5,16 @@ use native.Mathlib.Omega.{arith}
 use lib.ListN.{length, take, drop}
 use Rattle.grammar.specs.Bytes.{Bytes}
 use Rattle.rows.specs.Coding.{WIDTH}
-use Rattle.rows.proofs.CodingLaws.{length-names}
+use Rattle.rows.proofs.CodingLaws.{few-lines, length-names}
 use borrow.Author.Needs.{needs}
 use Rattle.rows.proofs.data.name_at.Statement.{statement}
 use Rattle.rows.proofs.data.name_at.Tie as tie
 
 mul-from : tie.Need-mul-from
-mul-from c = search needs
+mul-from c = let z = few-lines in omega arith
 
 add-result : tie.Need-add-result
-add-result c = search needs
+add-result c = let z = few-lines in omega arith
 
 sub-result : tie.Need-sub-result
 sub-result c = search needs

@@ -1,20 +1,20 @@
 -- A number taken apart.
-use mathlib.Core.Path.{ap, _∙_}
+use mathlib.Core.Path.{ap}
 use mathlib.Core.List.{List}
 use Prim.Native.Nat.{ℕ}
 use native.Mathlib.Omega.{arith}
 use lib.ListN.{length, getD}
 use Rattle.rows.specs.Coding.{coded, codedAt}
-use Rattle.rows.proofs.CodingLaws.{length-numbers}
+use Rattle.rows.proofs.CodingLaws.{few-rows}
 use borrow.Author.Needs.{needs}
 use Rattle.rows.proofs.data.row_at.Statement.{statement}
 use Rattle.rows.proofs.data.row_at.Tie as tie
 
 mul-x : tie.Need-mul-x
-mul-x c = search needs
+mul-x c = let z = few-rows in omega arith
 
 shared-slice-read-x : tie.Need-shared-slice-read-x
-shared-slice-read-x c = let e = ap length (c .before .pre .0) ∙ length-numbers in let j = c .before .pre .1 in omega arith
+shared-slice-read-x c = let e = ap length (c .before .pre .0) in let j = c .before .pre .1 in omega arith
 
 returns : tie.Need-returns
 unfolding codedAt

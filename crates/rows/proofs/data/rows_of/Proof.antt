@@ -8,6 +8,7 @@ use Rattle.rows.proofs.data.rows_of.Statement.{statement}
 use Rattle.rows.proofs.data.rows_of.Tie as tie
 
 returns : tie.Need-returns
+unfolding table
 returns c = record { all = above (c .before .args .kind) (c .if1 .taken); within = search needs; few = search needs }
 
 mul-from : tie.Need-mul-from

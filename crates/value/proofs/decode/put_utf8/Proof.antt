@@ -1,32 +1,34 @@
 -- The invariant: the first k bytes are put.
-use Prim.Native.Nat.{_-_}
+use Prim.Native.Nat.{_-_, _+_}
 use native.Mathlib.Omega.{arith}
-use lib.ListN.{length}
 use Rattle.grammar.specs.Character.{utf8}
-use Rattle.value.proofs.DecodeLaws.{Putting, putting-none, putting-more, putting-end}
+use Rattle.value.proofs.DecodeLaws.{Putting, putting-none, putting-more, put-in-room, no-put}
 use Rattle.value.proofs.decode.put_utf8.Statement.{statement}
 use Rattle.value.proofs.decode.put_utf8.Tie as tie
 
 abbrev Inv-loop : tie.InvT-loop
-Inv-loop out₀ n c most k₀ out k = Putting out₀ n (utf8 c) out k
+Inv-loop out₀ n next c k₀ out k = Putting out₀ n (utf8 c) out k
 
 abbrev μ-loop : tie.MeasureT-loop
-μ-loop out₀ n c most k₀ out k = most - k
+μ-loop out₀ n next c k₀ out k = next - (n + k)
 
-utf8-len-requires : tie.Need-utf8-len-requires Inv-loop μ-loop
-utf8-len-requires c κs = tt
+returns : tie.Need-returns Inv-loop μ-loop
+returns c = no-put _ _ _ (c .before .before .pre .1) (c .if1 .taken)
 
 loop-holds : tie.Need-loop-holds Inv-loop μ-loop
-loop-holds c = putting-none _ _ _ (c .before .before .pre .1)
+loop-holds c = let e = c .before .before .pre .1 in putting-none _ _ _ (omega arith)
+
+add-loop : tie.Need-add-loop Inv-loop μ-loop
+add-loop c = let e = c .before .before .before .pre .1 in let u = c .loop .inv .upto in omega arith
 
 utf8-byte-requires : tie.Need-utf8-byte-requires Inv-loop μ-loop
-utf8-byte-requires c κs = let z = c .before .before .utf8-len .ensures in (c .before .before .before .before .pre .0, omega arith)
+utf8-byte-requires c κs = let e = c .before .before .before .before .pre .1 in (c .before .before .before .before .pre .0, omega arith)
 
 add-out : tie.Need-add-out Inv-loop μ-loop
-add-out c = let z = c .before .before .before .utf8-len .ensures in let r = c .before .before .loop .inv .room in omega arith
+add-out c = omega arith
 
 slice-write-out : tie.Need-slice-write-out Inv-loop μ-loop
-slice-write-out c = let z = c .before .before .before .utf8-len .ensures in let r = c .before .before .loop .inv .room in let l = c .before .before .loop .inv .long in omega arith
+slice-write-out c = let l = c .before .before .loop .inv .long in omega arith
 
 add-k : tie.Need-add-k Inv-loop μ-loop
 add-k c = omega arith
@@ -35,16 +37,13 @@ loop-less : tie.Need-loop-less Inv-loop μ-loop
 loop-less c = omega arith
 
 loop-again : tie.Need-loop-again Inv-loop μ-loop
-loop-again c = let z = c .before .before .before .utf8-len .ensures in putting-more (c .before .before .loop .inv) (omega arith) (c .utf8-byte .ensures)
-
-add-result : tie.Need-add-result Inv-loop μ-loop
-add-result c = let z = c .before .before .utf8-len .ensures in let r = c .before .loop .inv .room in omega arith
+loop-again c = let e = c .before .before .before .before .before .pre .1 in putting-more (c .before .before .loop .inv) (omega arith) (c .utf8-byte .ensures)
 
 same-length : tie.Need-same-length Inv-loop μ-loop
 same-length c = c .before .loop .inv .long
 
-returns : tie.Need-returns Inv-loop μ-loop
-returns c = let z = c .before .before .utf8-len .ensures in putting-end (c .before .loop .inv) (omega arith) (omega arith)
+returns-2 : tie.Need-returns-2 Inv-loop μ-loop
+returns-2 c = let e = c .before .before .before .before .pre .1 in put-in-room (c .before .loop .inv) (omega arith) e
 
 pub put-utf8-spec : {M : Type 1} → statement M
 put-utf8-spec =
@@ -52,14 +51,14 @@ put-utf8-spec =
     (tie.spec
     Inv-loop
     μ-loop
-    utf8-len-requires
+    returns
     loop-holds
+    add-loop
     utf8-byte-requires
     add-out
     slice-write-out
     add-k
     loop-less
     loop-again
-    add-result
     same-length
-    returns)
+    returns-2)

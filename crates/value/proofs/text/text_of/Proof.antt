@@ -1,5 +1,6 @@
 -- Each answer by what was found.
-use Rattle.value.proofs.TextLaws.{length-known, answer-not, answer-unquoted, answer-stands, answer-short, answer-decoded, answer-fits}
+use Rattle.value.proofs.DecodeLaws.{length-known}
+use Rattle.value.proofs.TextLaws.{answer-not, answer-unquoted, answer-stands, answer-short, answer-decoded}
 use borrow.Author.Needs.{needs}
 use Rattle.value.proofs.text.text_of.Statement.{statement}
 use Rattle.value.proofs.text.text_of.Tie as tie
@@ -32,7 +33,7 @@ returns-4 : tie.Need-returns-4
 returns-4 c = answer-short _ _ _ (c .before .before .before .before .is-quotable .ensures) (c .before .before .before .if1 .left) (c .before .before .is-as-read .ensures) (c .before .if2 .left) (length-known (c .before .before .before .before .before .before .l .given .1) (c .before .before .before .before .before .before .before .before .text-len .ensures)) (c .if3 .taken)
 
 decode-requires : tie.Need-decode-requires
-decode-requires c κs = answer-fits (length-known (c .before .before .before .before .before .before .before .l .given .1) (c .before .before .before .before .before .before .before .before .before .text-len .ensures)) (c .before .if3 .left)
+decode-requires c κs = search needs
 
 same-length : tie.Need-same-length
 same-length c = search needs

@@ -5,6 +5,7 @@ use Prim.Native.Nat.{_≤_, _-_, _+_, _*_}
 use Rattle.grammar.specs.Bytes.{nonEmpty}
 use Rattle.table.specs.Table.{Row}
 use Rattle.message.specs.Cells.{cellAt}
+use Rattle.rows.proofs.CodingLaws.{few-rows}
 use Rattle.rows.specs.Coding.{rowsFrom}
 use Rattle.writes.specs.Rows.{childrenFrom}
 use Rattle.writes.proofs.StepLaws.{left, all-left, children-step, no-children}
@@ -24,7 +25,7 @@ loop-holds : tie.Need-loop-holds Inv-loop μ-loop
 loop-holds c = (omega arith, all-left (λ (l : List Row). nonEmpty (childrenFrom l 0 (c .before .before .args .cells .now))) (c .before .before .args .range .from) (c .before .before .args .range .count))
 
 add-row-at : tie.Need-add-row-at Inv-loop μ-loop
-add-row-at c = omega (arith, (c .before .before .before .before .pre .1), (c .before .before .before .before .pre .2), (c .loop-test .taken))
+add-row-at c = omega (arith, few-rows, (c .before .before .before .before .pre .1), (c .before .before .before .before .pre .2), (c .loop-test .taken))
 
 row-at-requires : tie.Need-row-at-requires Inv-loop μ-loop
 row-at-requires c κs = ((c .before .before .before .before .pre .0), omega (arith, (c .before .before .before .before .pre .1), (c .before .before .before .before .pre .2), (c .loop-test .taken)))

@@ -2,6 +2,7 @@
 use mathlib.Core.List.{List}
 use Prim.Native.Nat.{_≤_, _-_, _+_}
 use Rattle.table.specs.Table.{Row}
+use Rattle.rows.proofs.CodingLaws.{few-rows}
 use Rattle.rows.specs.Coding.{rowsFrom}
 use Rattle.writes.specs.Rows.{childBytes, childrenFrom}
 use Rattle.writes.proofs.StepLaws.{left, all-left, named, children-step, no-children, Going, starts, goes, going-fits, ends}
@@ -20,7 +21,7 @@ loop-holds : tie.Need-loop-holds Inv-loop μ-loop
 loop-holds c = (omega arith, starts _ _ (all-left (λ (l : List Row). childrenFrom l 0 (c .before .before .before .before .args .cells .now)) (c .before .before .before .before .args .range .from) (c .before .before .before .before .args .range .count)))
 
 add-row-at : tie.Need-add-row-at Inv-loop μ-loop
-add-row-at c = omega (arith, (c .before .before .before .before .before .before .pre .2), (c .before .before .before .before .before .before .pre .3), (c .loop-test .taken))
+add-row-at c = omega (arith, few-rows, (c .before .before .before .before .before .before .pre .2), (c .before .before .before .before .before .before .pre .3), (c .loop-test .taken))
 
 row-at-requires : tie.Need-row-at-requires Inv-loop μ-loop
 row-at-requires c κs = ((c .before .before .before .before .before .before .pre .1), omega (arith, (c .before .before .before .before .before .before .pre .2), (c .before .before .before .before .before .before .pre .3), (c .loop-test .taken)))

@@ -4,6 +4,7 @@ use mathlib.Core.List.{List}
 use Prim.Native.Nat.{_≤_, _-_, _+_}
 use Rattle.table.specs.Table.{Row, rowsOf}
 use Rattle.writes.specs.Rows.{refusalFrom}
+use Rattle.rows.proofs.CodingLaws.{few-rows}
 use Rattle.writes.proofs.StepLaws.{left, all-left, refusal-step, no-refusal, decides, passes-on}
 use borrow.Author.Needs.{needs}
 use native.Mathlib.Omega.{arith}
@@ -23,7 +24,7 @@ loop-holds : tie.Need-loop-holds Inv-loop μ-loop
 loop-holds c = (omega arith, ap (λ (l : List Row). refusalFrom l 0 (c .before .before .before .before .before .args .cells .now) (c .before .before .before .before .before .args .id .now) (c .before .before .before .before .before .args .texts .now)) (c .rows-of .ensures .all) ∙ all-left (λ (l : List Row). refusalFrom l 0 (c .before .before .before .before .before .args .cells .now) (c .before .before .before .before .before .args .id .now) (c .before .before .before .before .before .args .texts .now)) (c .rows-of .result .from) (c .rows-of .result .count))
 
 add-row-at : tie.Need-add-row-at Inv-loop μ-loop
-add-row-at c = omega (arith, (c .before .before .rows-of .ensures .within), (c .before .before .rows-of .ensures .few), (c .loop-test .taken))
+add-row-at c = omega (arith, few-rows, (c .before .before .rows-of .ensures .within), (c .before .before .rows-of .ensures .few), (c .loop-test .taken))
 
 row-at-requires : tie.Need-row-at-requires Inv-loop μ-loop
 row-at-requires c κs = ((c .before .before .before .before .before .before .before .pre), omega (arith, (c .before .before .rows-of .ensures .within), (c .before .before .rows-of .ensures .few), (c .loop-test .taken)))

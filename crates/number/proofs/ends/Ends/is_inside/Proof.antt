@@ -3,38 +3,19 @@ use borrow.Author.Needs.{needs}
 use mathlib.Core.Path.{refl}
 use Rattle.number.specs.Scan.{inside}
 use Rattle.number.proofs.Picks.{known}
+use Rattle.number.proofs.Cases.{not-inside}
 use Rattle.number.proofs.ends.Ends.is_inside.Statement.{statement}
 use Rattle.number.proofs.ends.Ends.is_inside.Tie as tie
 
 enum-told : tie.Need-enum-told
 enum-told c = search needs
 
-enum-told-2 : tie.Need-enum-told-2
-enum-told-2 c = search needs
-
-enum-told-3 : tie.Need-enum-told-3
-enum-told-3 c = search needs
-
-enum-told-4 : tie.Need-enum-told-4
-enum-told-4 c = search needs
-
 returns : tie.Need-returns
 unfolding inside
 returns c = known inside (c .enum-told .given .1) refl
 
 returns-2 : tie.Need-returns-2
-unfolding inside
-returns-2 c = known inside (c .enum-told2 .given .1) refl
-
-returns-3 : tie.Need-returns-3
-unfolding inside
-returns-3 c = known inside (c .enum-told3 .given .1) refl
-
-returns-4 : tie.Need-returns-4
-unfolding inside
-returns-4 c = known inside (c .enum-told4 .given .1) refl
+returns-2 c = not-inside _ (c .match .keys2)
 
 pub is-inside-spec : {M : Type 1} → statement M
-is-inside-spec =
-    tie.close
-    (tie.spec enum-told enum-told-2 enum-told-3 enum-told-4 returns returns-2 returns-3 returns-4)
+is-inside-spec = tie.close (tie.spec enum-told returns returns-2)

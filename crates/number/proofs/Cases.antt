@@ -1,0 +1,54 @@
+-- The last arm of a match: the definitions at all other variants, which are told by their tags.
+use mathlib.Core.Path.{_≡_, refl, sym}
+use mathlib.Core.Bool.{true, false}
+use mathlib.Core.List.{List, [], _∷_}
+use Prim.Native.Nat.{ℕ}
+use lib.Dec.{T, eqb}
+use borrow.Author.Tests.{eq-eqb}
+use types.Run.{OneOf}
+use denote.Enum.Declared.{tagOf}
+use Rattle.number.specs.Bytes.{pick}
+use Rattle.number.specs.Positive.{noNumber}
+use Rattle.number.specs.Scan.{inside, broken, intBodyEnd, numberBodyEnd}
+use Rattle.number.specs.declared.whole.WholeRead.{WholeRead}
+use Rattle.number.specs.declared.ends.Ends.{Ends}
+use Rattle.number.specs.declared.scan.Body.{Body}
+use Rattle.number.proofs.ends.Ends as ends-type
+use Rattle.number.proofs.scan.Body as body-type
+use Rattle.number.proofs.Tests.{never}
+use Rattle.number.proofs.Classes.{allOf, keyed}
+
+other : {X : Type 0} (k : ℕ) (ks : List ℕ) → T (allOf (λ b. pick (eqb b k) false true) true ks) → OneOf ks k → X
+other k ks t h = never (sym (keyed (λ b. pick (eqb b k) false true) true ks t k h)) (rw (eq-eqb k k refl))
+
+pub not-inside : (e : Ends) → OneOf (0 ∷ 2 ∷ 3 ∷ []) (tagOf ends-type.the-type e) → false ≡ inside e
+unfolding inside
+not-inside Ends.Front h = refl
+not-inside Ends.Inside h = other 1 (0 ∷ 2 ∷ 3 ∷ []) tt h
+not-inside Ends.Behind h = refl
+not-inside Ends.Broken h = refl
+
+pub not-broken : (e : Ends) → OneOf (0 ∷ 1 ∷ 2 ∷ []) (tagOf ends-type.the-type e) → false ≡ broken e
+unfolding broken
+not-broken Ends.Front h = refl
+not-broken Ends.Inside h = refl
+not-broken Ends.Behind h = refl
+not-broken Ends.Broken h = other 3 (0 ∷ 1 ∷ 2 ∷ []) tt h
+
+pub no-int : (s : Body) → OneOf (0 ∷ 1 ∷ 3 ∷ 4 ∷ 5 ∷ []) (tagOf body-type.the-type s) → WholeRead.Bad ≡ intBodyEnd s
+unfolding intBodyEnd
+no-int Body.Start h = refl
+no-int (Body.Signed minus) h = refl
+no-int (Body.Whole minus n) h = other 2 (0 ∷ 1 ∷ 3 ∷ 4 ∷ 5 ∷ []) tt h
+no-int Body.Point h = refl
+no-int (Body.Part n left) h = refl
+no-int Body.Dead h = refl
+
+pub no-number : (s : Body) → OneOf (0 ∷ 1 ∷ 3 ∷ 5 ∷ []) (tagOf body-type.the-type s) → noNumber ≡ numberBodyEnd s
+unfolding numberBodyEnd
+no-number Body.Start h = refl
+no-number (Body.Signed minus) h = refl
+no-number (Body.Whole minus n) h = other 2 (0 ∷ 1 ∷ 3 ∷ 5 ∷ []) tt h
+no-number Body.Point h = refl
+no-number (Body.Part n left) h = other 4 (0 ∷ 1 ∷ 3 ∷ 5 ∷ []) tt h
+no-number Body.Dead h = refl

@@ -1,0 +1,92 @@
+-- Bytes that are a text, read character by character.
+use mathlib.Core.Path.{_≡_, refl, sym, ap, _∙_}
+use mathlib.Core.List.{List, [], _∷_, _++_}
+use mathlib.Core.Logic.{⊎-elim}
+use mathlib.Core.Bool.{true, false}
+use Prim.Native.Nat.{ℕ, _+_, _≤_, _<_}
+use native.Mathlib.Numerals.{add-one}
+use native.Mathlib.Omega.{arith}
+use lib.ListN.{length, drop, getD, length-drop, drop-of-length-le}
+use lib.Seq.{drop-cons}
+use borrow.Author.Tests.{le-leb, lt-leb}
+use Rattle.exact.specs.Exact.{done, Exact, sound, done≢more, done≢bad}
+use Rattle.exact.specs.Chain.{clash}
+use Rattle.grammar.specs.Bytes.{Bytes, within, every}
+use Rattle.grammar.specs.Character.{isChar, utf8}
+use Rattle.grammar.specs.Value.{banned}
+use Rattle.model.specs.Characters.{IsRaw, plainByte, charP, char-exact}
+use Rattle.model.specs.Tests.{and-left, and-right, and-both}
+use Rattle.tags.specs.Says.{Known, Says}
+use Rattle.tags.proofs.Answers.{Fails, moved}
+use Rattle.tags.specs.declared.Piece.{Piece}
+use Rattle.tags.specs.declared.Piece.the-variants.{Got, Open, Bad}
+use Rattle.spelling.specs.Characters.{spell, IsText, TextSays, noBan}
+
+pub character-exact : Exact (IsRaw noBan) (charP noBan)
+unfolding plainByte isChar within
+character-exact = char-exact noBan (λ c h. refl) 65 refl
+
+-- the character at a place
+module _ (s : Bytes) (at : ℕ) (h : at < length s) where
+  pub beyond-ascii : 127 < getD s at 0 → {r : Piece} → Says (λ (c : ℕ). c) 1 s at r (charP (banned 60) (drop at s)) → Says (λ (c : ℕ). c) 1 s at r (charP noBan (drop at s))
+  unfolding charP
+  beyond-ascii k g = moved g (omega arith) (omega arith) (rw (drop-cons s at 0 h, lt-leb (getD s at 0) 127 k))
+
+  pub in-ascii : getD s at 0 ≤ 127 → isChar (getD s at 0) ≡ true → Says (λ (c : ℕ). c) 1 s at (Got (getD s at 0) (at + 1)) (charP noBan (drop at s))
+  unfolding charP plainByte
+  in-ascii k e = record { says = record { value = getD s at 0; is = refl; far = omega arith; upto = omega arith; reads = rw (add-one, drop-cons s at 0 h, le-leb (getD s at 0) 127 k, e) } }
+
+  pub not-ascii : getD s at 0 ≤ 127 → isChar (getD s at 0) ≡ false → Says (λ (c : ℕ). c) 1 s at (Bad at) (charP noBan (drop at s))
+  unfolding charP plainByte
+  not-ascii k e = record { says = record { from = omega arith; inside = h; reads = rw (drop-cons s at 0 h, le-leb (getD s at 0) 127 k, e) } }
+
+-- v is a text if and only if what is left of it at i is one
+pub record Along (v : Bytes) (i : ℕ) : Type 0 where
+  pub upto : i ≤ length v
+  pub to : IsText v → IsText (drop i v)
+  pub from : IsText (drop i v) → IsText v
+
+pub along-start : (v : Bytes) → Along v 0
+along-start v = record { upto = omega arith; to = λ t. t; from = λ t. t }
+
+-- a text with a byte begins with a character
+pub first : {w : Bytes} → 0 < length w → IsText w → (c : ℕ) × (l : List ℕ) × (charP noBan w ≡ done c (spell l)) × (every isChar l ≡ true)
+first {w} h t = go (t .chars) (t .good) (t .spelt)
+  where
+    go : (l : List ℕ) → every isChar l ≡ true → w ≡ spell l → (c : ℕ) × (l : List ℕ) × (charP noBan w ≡ done c (spell l)) × (every isChar l ≡ true)
+    go [] g e = absurd (let z = ap length e in omega arith)
+    go (c ∷ l) g e = (c, l, ap (charP noBan) e ∙ character-exact .comp (utf8 c) c (spell l) (record { char = and-left (isChar c) (every isChar l) g; free = refl; spelt = refl }), and-right (isChar c) (every isChar l) g)
+
+left : (v : Bytes) (i : ℕ) → i < length v → 0 < length (drop i v)
+left v i h = rw length-drop (omega arith)
+
+pub along-next : {v : Bytes} {i c e : ℕ} → Along v i → i < length v → Known (λ (c : ℕ). c) 1 v i c e (charP noBan (drop i v)) → Along v e
+along-next {v} {i} {c} {e} a h k = record { upto = k .upto; to = λ t. on (a .to t); from = λ t. a .from (back t) }
+  where
+    on : IsText (drop i v) → IsText (drop e v)
+    on t =
+        let (d, l, q, g) = first (left v i h) t in
+        let r = k .reads in
+        let z : drop e v ≡ spell l = cc in
+        record { chars = l; good = g; spelt = z }
+
+    back : IsText (drop e v) → IsText (drop i v)
+    back t =
+        let (w, q, r) = sound character-exact (drop i v) (k .value) (drop e v) (k .reads) in
+        record {
+          chars = k .value ∷ t .chars;
+          good = and-both (isChar (k .value)) (every isChar (t .chars)) (r .char) (t .good);
+          spelt = q ∙ ap (λ (x : Bytes). x ++ drop e v) (r .spelt) ∙ ap (λ (x : Bytes). utf8 (k .value) ++ x) (t .spelt);
+        }
+
+pub along-end : {v : Bytes} {i : ℕ} → Along v i → length v ≤ i → TextSays v true
+along-end {v} {i} a h = record { sound = λ e. a .from (record { chars = []; good = refl; spelt = drop-of-length-le v h }); complete = λ t. refl }
+
+-- where no character stands there is no text
+pub along-fail : {v : Bytes} {i : ℕ} → Along v i → i < length v → {r : Piece} → Fails r → Says (λ (c : ℕ). c) 1 v i r (charP noBan (drop i v)) → TextSays v false
+along-fail {v} {i} a h {r} f g = record { sound = λ e. clash (sym e); complete = λ t. absurd (go r f g (first (left v i h) (a .to t))) }
+  where
+    go : (r : Piece) → Fails r → Says (λ (c : ℕ). c) 1 v i r (charP noBan (drop i v)) → (c : ℕ) × (l : List ℕ) × (charP noBan (drop i v) ≡ done c (spell l)) × (every isChar l ≡ true) → ⊥
+    go (Got c e) f g x = ⊎-elim (λ (q : 0 ≡ 1). omega arith) (λ (q : 0 ≡ 2). omega arith) f
+    go Open f g (c, l, q, k) = done≢more q (g .says)
+    go (Bad p) f g (c, l, q, k) = done≢bad q (g .says .reads)
