@@ -50,10 +50,10 @@ fn form(from: usize, i: usize) -> u64 {
         return 0;
     }
     let j = from + i;
-    if 31 <= j {
+    let numbers = rows::data::NUMBERS;
+    if numbers.len() <= j {
         return 0;
     }
-    let numbers = rows::data::NUMBERS;
     numbers[j] / 0x0100_0000_0000_0000
 }
 
@@ -76,7 +76,7 @@ fn value(form: u64, there: u64, a: u64, b: u64, id: [u8; 36]) {
 }
 
 // The values of the rows in a range.
-fn in_order(numbers: [u64; 73], id: [u8; 36], range: Range) {
+fn in_order(numbers: [u64; structs::NUMBERS], id: [u8; 36], range: Range) {
     for i in 0..24 {
         if range.count <= i {
             return;
