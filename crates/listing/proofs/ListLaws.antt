@@ -8,7 +8,7 @@ use lib.ListN.{length, take}
 use Rattle.grammar.specs.Bytes.{Bytes}
 use Rattle.listing.specs.Held.{Held, ToppedUp, Turned}
 use Rattle.listing.specs.Printed.{left}
-use Rattle.listing.specs.Turns.{At, start, Turn, gives, Past, past-start, past-turn, TURNS, Ended, Unended}
+use Rattle.listing.specs.Turns.{At, start, Turn, gives, Past, past-start, past-turn, TURNS, Ended, Stopped, Unended}
 use Rattle.listing.specs.declared.window.Window.{Window}
 use Rattle.listing.specs.declared.Stand.{Stand}
 
@@ -66,3 +66,7 @@ going-out {w = w} {buf} {out} {waiting} g h = record {
   past = subst (λ (k : ℕ). Past k (g .input) (g .given) (at w buf waiting out)) (omega (arith, g .counted)) (g .past);
   holds = refl;
 }
+
+-- reading failed
+pub going-stops : {turns : ℕ} {w v : Window} {buf out new : Bytes} {waiting : ℕ} → Going turns w buf waiting out → ToppedUp w buf v new → v .failed ≡ true → Stopped out
+going-stops {w = w} {v} {buf} {out} {new} {waiting} g t f = record { k = g .k; input = g .input; given = g .given; a = at w buf waiting out; past = g .past; held = v; buf = new; topped = t; failed = f; holds = refl }

@@ -63,9 +63,9 @@ topped-at-end w b h e = record { held = h; more = []; bytes = sym (append-nil (b
 pub topped-already : (w : Window) (b : Bytes) → Held w (length b) → w .last ≡ false → MESSAGE ≤ w .len - w .at → ToppedUp w b w b
 topped-already w b h e k = record { held = h; more = []; bytes = sym (append-nil (bytesOf w b)); base = refl; enough = λ _. k; ended = λ f. clash (sym f ∙ e) }
 
-pub topped-read : (w : Window) (old moved new : Bytes) (len : ℕ) → w .last ≡ false → take (w .len - w .at) moved ≡ bytesOf w old → take (w .len - w .at) new ≡ take (w .len - w .at) moved → w .len - w .at ≤ len → len ≤ length new
-    → MESSAGE ≤ length new → ToppedUp w old (record { base = w .base; at = 0; len = len; last = ltb len (length new) }) new
-topped-read w old moved new len g e f h k m = let z : len - 0 ≡ len = omega arith in record {
+pub topped-read : (w : Window) (old moved new : Bytes) (len : ℕ) (failed : Bool) → w .last ≡ false → take (w .len - w .at) moved ≡ bytesOf w old → take (w .len - w .at) new ≡ take (w .len - w .at) moved → w .len - w .at ≤ len → len ≤ length new
+    → MESSAGE ≤ length new → ToppedUp w old (record { base = w .base; at = 0; len = len; last = ltb len (length new); failed = failed }) new
+topped-read w old moved new len failed g e f h k m = let z : len - 0 ≡ len = omega arith in record {
   held = record { front = omega arith; back = k };
   more = drop (w .len - w .at) (take len new);
   bytes = ap (λ (k : ℕ). take k new) z ∙ sym (take-append-drop (w .len - w .at) (take len new)) ∙ ap (λ (y : Bytes). y ++ drop (w .len - w .at) (take len new)) (take-take (w .len - w .at) len new h ∙ f ∙ e);

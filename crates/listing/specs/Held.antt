@@ -34,7 +34,7 @@ pub record ToppedUp (w : Window) (old : Bytes) (r : Window) (new : Bytes) : Type
 
 -- without its first n bytes: "Bytes count from the input's start", in 64 bits
 abbrev pub without : Window → ℕ → Window
-without w n = record { base = in64 (w .base + n); at = w .at + n; len = w .len; last = w .last }
+without w n = record { base = in64 (w .base + n); at = w .at + n; len = w .len; last = w .last; failed = w .failed }
 
 abbrev pub next : Window → Listed → Window
 next w (Line start end kind refusal) = without w end

@@ -18,7 +18,7 @@ pub record At : Type 0 where
 
 -- at the start nothing is held, nothing is counted and nothing waits
 abbrev pub start : Bytes → Bytes → At
-start buf out = record { window = record { base = 0; at = 0; len = 0; last = false }; buf = buf; waiting = 0; out = out }
+start buf out = record { window = record { base = 0; at = 0; len = 0; last = false; failed = false }; buf = buf; waiting = 0; out = out }
 
 -- one turn, done if its line is the last: the window is topped up, room is made for a line, and a step is printed
 pub record Turn (a : At) (done : Bool) (b : At) : Type 0 where
@@ -47,7 +47,7 @@ pub record Finished (input text : Bytes) : Type 0 where
   pub read : input ≡ before ++ turn .topped .more
   pub whole : text ≡ (given ++ gives a) ++ take (b .waiting) (b .out)
 
--- what `list` promises: its turns are such. It comes to the last line, or all the turns that it counts are made
+-- what `list` promises: its turns are such. It comes to the last line, or all the turns that it counts are made, or reading fails
 abbrev pub TURNS : ℕ
 TURNS = 0xFFFFFFFFFFFFFFFF
 
@@ -62,4 +62,17 @@ pub record Unended (out : Bytes) : Type 0 where
   pub given : Bytes
   pub a : At
   pub past : Past TURNS input given a
+  pub holds : out ≡ a .out
+
+-- or reading failed behind what was read: what the turns printed before is handed to the system, and no last line
+pub record Stopped (out : Bytes) : Type 0 where
+  pub k : ℕ
+  pub input : Bytes
+  pub given : Bytes
+  pub a : At
+  pub past : Past k input given a
+  pub held : Window
+  pub buf : Bytes
+  pub topped : ToppedUp (a .window) (a .buf) held buf
+  pub failed : held .failed ≡ true
   pub holds : out ≡ a .out

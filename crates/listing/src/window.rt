@@ -6,40 +6,57 @@ ghost use Rattle.grammar.specs.Limits.{MESSAGE};
 ghost use Rattle.listing.specs.Held.{Held, ToppedUp, without};
 use grammar::Limits;
 
-/// `base` bytes of the input stand before it. `last`: the input ends with it.
+/// `base` bytes of the input stand before it. `last`: nothing was read behind it, since the input ends there, or since reading `failed`.
 pub struct Window {
     pub base: u64,
     pub at: usize,
     pub len: usize,
     pub last: bool,
+    pub failed: bool,
 }
 
-// One read behind the first len bytes: how many came. A read that fails counts as the end of the input: none came.
-fn read_behind(buf: &mut [u8], len: usize) -> usize
+/// What reading brought: so many bytes, and whether it failed.
+pub struct Got {
+    pub count: usize,
+    pub failed: bool,
+}
+
+// One read behind the first len bytes: how many came. None come where the input ends or the read fails.
+fn read_behind(buf: &mut [u8], len: usize) -> Got
     requires { ⌜ len ≤ length (now buf) ⌝ }
-    ensures { λ r. ⌜ len + r ≤ length (now (buf .exit)) ⌝ }
+    ensures { λ r. ⌜ len + r .count ≤ length (now (buf .exit)) ⌝ }
     ensures { λ _. ⌜ take len (now (buf .exit)) ≡ take len (now (buf .entry)) ⌝ }
 {
     let got = libc::read(libc::STDIN_FILENO, &mut buf[len..]);
-    io::count(got, &buf[len..])
+    let count = io::count(got, &buf[len..]);
+    Got {
+        count: count,
+        failed: got < 0,
+    }
 }
 
-// Reads behind the first `from` bytes until the buffer is full or the input ends: how many bytes are in it then.
-fn fill(buf: &mut [u8], from: usize) -> usize
+// Reads behind the first `from` bytes until the buffer is full, the input ends or a read fails: how many bytes are in it then.
+fn fill(buf: &mut [u8], from: usize) -> Got
     requires { ⌜ from ≤ length (now buf) ⌝ }
-    ensures { λ r. ⌜ from ≤ r ⌝ }
-    ensures { λ r. ⌜ r ≤ length (now (buf .exit)) ⌝ }
+    ensures { λ r. ⌜ from ≤ r .count ⌝ }
+    ensures { λ r. ⌜ r .count ≤ length (now (buf .exit)) ⌝ }
     ensures { λ _. ⌜ take from (now (buf .exit)) ≡ take from (now (buf .entry)) ⌝ }
 {
     let mut len = from;
     while len < buf.len() {
-        let n = read_behind(&mut *buf, len);
-        if n == 0 {
-            return len;
+        let got = read_behind(&mut *buf, len);
+        if got.count == 0 {
+            return Got {
+                count: len,
+                failed: got.failed,
+            };
         }
-        len += n;
+        len += got.count;
     }
-    len
+    Got {
+        count: len,
+        failed: false,
+    }
 }
 
 // Moves n bytes to the front.
@@ -68,12 +85,13 @@ pub fn topped_up(buf: &mut [u8], w: Window) -> Window
         return w;
     }
     move_to_front(&mut *buf, w.at, n);
-    let len = fill(&mut *buf, n);
+    let got = fill(&mut *buf, n);
     Window {
         base: w.base,
         at: 0,
-        len: len,
-        last: len < buf.len(),
+        len: got.count,
+        last: got.count < buf.len(),
+        failed: got.failed,
     }
 }
 
@@ -87,5 +105,6 @@ pub fn dropped(w: Window, n: usize) -> Window
         at: w.at + n,
         len: w.len,
         last: w.last,
+        failed: w.failed,
     }
 }

@@ -1,11 +1,10 @@
 -- The invariant: turns have led to where the loop is.
-use mathlib.Core.Path.{_≡_, refl, sym}
-use Prim.Native.Nat.{_-_}
+use mathlib.Core.Path.{_≡_, refl}
+use Prim.Native.Nat.{ℕ, _-_}
 use native.Mathlib.Omega.{arith}
 use lib.ListN.{length}
 use borrow.Author.Needs.{needs}
-use Rattle.listing.proofs.ListLaws.{Going, going-start, going-on, going-ends, going-out}
-use Rattle.exact.specs.Chain.{clash}
+use Rattle.listing.proofs.ListLaws.{Going, going-start, going-on, going-ends, going-stops, going-out}
 use Rattle.listing.proofs.LineLaws.{left-room}
 use Rattle.listing.proofs.list.Statement.{statement}
 use Rattle.listing.proofs.list.Tie as tie
@@ -22,14 +21,8 @@ loop-holds c = (refl, refl, going-start _ _)
 topped-up-requires : tie.Need-topped-up-requires Inv-loop μ-loop
 topped-up-requires c κs = (c .before .before .loop .inv .2 .held, omega arith)
 
-made-room-requires : tie.Need-made-room-requires Inv-loop μ-loop
-made-room-requires c κs = (c .before .before .before .before .before .before .loop .inv .2 .waits, omega arith)
-
-turn-requires : tie.Need-turn-requires Inv-loop μ-loop
-turn-requires c κs = (c .before .before .before .before .before .before .topped-up .ensures .held, left-room (length (c .before .before .before .before .before .before .before .before .before .loop .out)) (c .before .before .before .before .before .before .before .before .before .loop .waiting) (c .before .before .made-room .ensures) (omega arith))
-
 flush-requires : tie.Need-flush-requires Inv-loop μ-loop
-flush-requires c κs = c .before .before .before .before .before .turn .ensures .printed .inside
+flush-requires c κs = c .before .before .before .before .before .before .before .loop .inv .2 .waits
 
 same-length : tie.Need-same-length Inv-loop μ-loop
 same-length c = search needs
@@ -38,16 +31,16 @@ same-length-2 : tie.Need-same-length-2 Inv-loop μ-loop
 same-length-2 c = search needs
 
 returns : tie.Need-returns Inv-loop μ-loop
-returns c = (λ _. going-ends (c .before .before .before .before .before .before .before .before .before .before .before .before .before .before .before .before .loop .inv .2) (c .before .before .before .before .before .before .before .before .before .before .before .before .before .topped-up .ensures) (c .before .before .before .before .before .before .before .before .before .made-room .ensures) (c .before .before .before .before .before .before .turn .ensures) (c .before .before .if1 .taken), λ e. clash e)
+returns c = ((λ e. absurd (let z : _≡_ {A = ℕ} 0 1 = cc in omega arith)), (λ _. going-stops (c .before .before .before .before .before .before .before .before .loop .inv .2) (c .before .before .before .before .before .topped-up .ensures) (c .before .before .if1 .taken), (λ e. absurd (let z : _≡_ {A = ℕ} 0 1 = cc in omega arith))))
 
-sub-turns : tie.Need-sub-turns Inv-loop μ-loop
-sub-turns c = search needs
+made-room-requires : tie.Need-made-room-requires Inv-loop μ-loop
+made-room-requires c κs = (c .before .before .before .before .before .before .before .loop .inv .2 .waits, omega arith)
 
-loop-less : tie.Need-loop-less Inv-loop μ-loop
-loop-less c = search needs
+turn-requires : tie.Need-turn-requires Inv-loop μ-loop
+turn-requires c κs = (c .before .before .before .before .before .before .before .topped-up .ensures .held, left-room (length (c .before .before .before .before .before .before .before .before .before .before .loop .out)) (c .before .before .before .before .before .before .before .before .before .before .loop .waiting) (c .before .before .made-room .ensures) (omega arith))
 
-loop-again : tie.Need-loop-again Inv-loop μ-loop
-loop-again c = (search needs, search needs, going-on (c .before .before .before .before .before .before .before .before .before .before .before .before .before .before .loop .inv .2) (c .before .before .before .before .before .before .before .before .before .before .before .topped-up .ensures) (c .before .before .before .before .before .before .before .made-room .ensures) (c .before .before .before .before .turn .ensures) (c .before .before .before .before .before .before .before .before .before .before .before .before .before .before .loop .turns - 1) (omega (arith, c .before .before .before .before .before .before .before .before .before .before .before .before .before .loop-test .taken)) (c .if1 .left))
+flush-requires-2 : tie.Need-flush-requires-2 Inv-loop μ-loop
+flush-requires-2 c κs = c .before .before .before .before .before .turn .ensures .printed .inside
 
 same-length-3 : tie.Need-same-length-3 Inv-loop μ-loop
 same-length-3 c = search needs
@@ -56,7 +49,25 @@ same-length-4 : tie.Need-same-length-4 Inv-loop μ-loop
 same-length-4 c = search needs
 
 returns-2 : tie.Need-returns-2 Inv-loop μ-loop
-returns-2 c = (λ e. clash (sym e), λ _. going-out (c .before .loop .inv .2) (omega (arith, c .loop-test .left)))
+returns-2 c = ((λ _. going-ends (c .before .before .before .before .before .before .before .before .before .before .before .before .before .before .before .before .before .loop .inv .2) (c .before .before .before .before .before .before .before .before .before .before .before .before .before .before .topped-up .ensures) (c .before .before .before .before .before .before .before .before .before .made-room .ensures) (c .before .before .before .before .before .before .turn .ensures) (c .before .before .if2 .taken)), ((λ e. absurd (let z : _≡_ {A = ℕ} 0 1 = cc in omega arith)), (λ e. absurd (let z : _≡_ {A = ℕ} 0 1 = cc in omega arith))))
+
+sub-turns : tie.Need-sub-turns Inv-loop μ-loop
+sub-turns c = search needs
+
+loop-less : tie.Need-loop-less Inv-loop μ-loop
+loop-less c = search needs
+
+loop-again : tie.Need-loop-again Inv-loop μ-loop
+loop-again c = (search needs, search needs, going-on (c .before .before .before .before .before .before .before .before .before .before .before .before .before .before .before .loop .inv .2) (c .before .before .before .before .before .before .before .before .before .before .before .before .topped-up .ensures) (c .before .before .before .before .before .before .before .made-room .ensures) (c .before .before .before .before .turn .ensures) (c .before .before .before .before .before .before .before .before .before .before .before .before .before .before .before .loop .turns - 1) (omega (arith, c .before .before .before .before .before .before .before .before .before .before .before .before .before .before .loop-test .taken)) (c .if2 .left))
+
+same-length-5 : tie.Need-same-length-5 Inv-loop μ-loop
+same-length-5 c = search needs
+
+same-length-6 : tie.Need-same-length-6 Inv-loop μ-loop
+same-length-6 c = search needs
+
+returns-3 : tie.Need-returns-3 Inv-loop μ-loop
+returns-3 c = ((λ e. absurd (let z : _≡_ {A = ℕ} 0 1 = cc in omega arith)), ((λ e. absurd (let z : _≡_ {A = ℕ} 0 1 = cc in omega arith)), λ _. going-out (c .before .loop .inv .2) (omega (arith, c .loop-test .left))))
 
 pub list-spec : {M : Type 1} → statement M
 list-spec =
@@ -66,15 +77,19 @@ list-spec =
     μ-loop
     loop-holds
     topped-up-requires
-    made-room-requires
-    turn-requires
     flush-requires
     same-length
     same-length-2
     returns
+    made-room-requires
+    turn-requires
+    flush-requires-2
+    same-length-3
+    same-length-4
+    returns-2
     sub-turns
     loop-less
     loop-again
-    same-length-3
-    same-length-4
-    returns-2)
+    same-length-5
+    same-length-6
+    returns-3)

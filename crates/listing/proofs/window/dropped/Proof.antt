@@ -14,7 +14,7 @@ add-t5 : tie.Need-add-t5
 add-t5 c = search needs
 
 returns : tie.Need-returns
-returns c = ap (λ (x : ℕ). record { base = x; at = c .before .before .args .w .at + c .before .before .args .n; len = c .before .before .args .w .len; last = c .before .before .args .w .last }) (c .before .wrapping-add-u64 .ensures)
+returns c = ap (λ (x : ℕ). record { base = x; at = c .before .before .args .w .at + c .before .before .args .n; len = c .before .before .args .w .len; last = c .before .before .args .w .last; failed = c .before .before .args .w .failed }) (c .before .wrapping-add-u64 .ensures)
 
 pub dropped-spec : {M : Type 1} → statement M
 dropped-spec = tie.close (tie.spec wrapping-add-u64-requires add-t5 returns)

@@ -26,7 +26,7 @@ same-length : tie.Need-same-length Inv-loop μ-loop
 same-length c = search needs
 
 returns : tie.Need-returns Inv-loop μ-loop
-returns c = (c .before .before .before .before .before .before .loop .inv .2, (omega arith, take-less (c .before .before .before .before .before .before .before .before .args .from) (c .before .before .before .before .before .before .loop .len) (c .before .before .before .read-behind .last .0) (c .before .before .before .before .before .before .loop .buf) (c .before .before .before .before .before .before .loop .inv .2) (c .before .before .before .read-behind .ensures .1) ∙ c .before .before .before .before .before .before .loop .inv .3))
+returns c = (c .before .before .before .before .before .before .before .loop .inv .2, (omega arith, take-less (c .before .before .before .before .before .before .before .before .before .args .from) (c .before .before .before .before .before .before .before .loop .len) (c .before .before .before .before .read-behind .last .0) (c .before .before .before .before .before .before .before .loop .buf) (c .before .before .before .before .before .before .before .loop .inv .2) (c .before .before .before .before .read-behind .ensures .1) ∙ c .before .before .before .before .before .before .before .loop .inv .3))
 
 add-len : tie.Need-add-len Inv-loop μ-loop
 add-len c = omega arith
@@ -35,7 +35,7 @@ loop-less : tie.Need-loop-less Inv-loop μ-loop
 loop-less c = omega arith
 
 loop-again : tie.Need-loop-again Inv-loop μ-loop
-loop-again c = (search needs, omega arith, omega arith, take-less (c .before .before .before .before .before .before .before .before .args .from) (c .before .before .before .before .before .before .loop .len) (c .before .before .before .read-behind .last .0) (c .before .before .before .before .before .before .loop .buf) (c .before .before .before .before .before .before .loop .inv .2) (c .before .before .before .read-behind .ensures .1) ∙ c .before .before .before .before .before .before .loop .inv .3)
+loop-again c = (search needs, omega arith, omega arith, take-less (c .before .before .before .before .before .before .before .before .before .before .args .from) (c .before .before .before .before .before .before .before .before .loop .len) (c .before .before .before .before .before .read-behind .last .0) (c .before .before .before .before .before .before .before .before .loop .buf) (c .before .before .before .before .before .before .before .before .loop .inv .2) (c .before .before .before .before .before .read-behind .ensures .1) ∙ c .before .before .before .before .before .before .before .before .loop .inv .3)
 
 same-length-2 : tie.Need-same-length-2 Inv-loop μ-loop
 same-length-2 c = search needs

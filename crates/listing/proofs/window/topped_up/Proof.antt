@@ -25,7 +25,7 @@ same-length : tie.Need-same-length
 same-length c = search needs
 
 returns-3 : tie.Need-returns-3
-returns-3 c = topped-read (c .before .before .before .before .before .before .before .before .before .before .before .before .args .w) (now (c .before .before .before .before .before .before .before .before .before .before .before .before .args .buf)) (c .before .before .before .before .before .before .move-to-front .last .0) (c .before .before .fill .last .0) (c .before .before .fill .result) (c .before .before .before .before .before .before .before .before .before .if1 .left) (c .before .before .before .before .before .before .move-to-front .ensures) (c .before .before .fill .ensures .1 .1) (c .before .before .fill .ensures .0) (c .before .before .fill .ensures .1 .0) (omega arith)
+returns-3 c = topped-read (c .before .before .before .before .before .before .before .before .before .before .before .before .before .args .w) (now (c .before .before .before .before .before .before .before .before .before .before .before .before .before .args .buf)) (c .before .before .before .before .before .before .before .move-to-front .last .0) (c .before .before .before .fill .last .0) (c .before .before .before .fill .result .count) (c .before .before .before .fill .result .failed) (c .before .before .before .before .before .before .before .before .before .before .if1 .left) (c .before .before .before .before .before .before .before .move-to-front .ensures) (c .before .before .before .fill .ensures .1 .1) (c .before .before .before .fill .ensures .0) (c .before .before .before .fill .ensures .1 .0) (omega arith)
 
 pub topped-up-spec : {M : Type 1} → statement M
 topped-up-spec =
