@@ -5,7 +5,7 @@ use mathlib.Core.Bool.{Bool, true, false}
 use mathlib.Core.Logic.{_⊎_, inl, inr, ⊎-elim, _↔_}
 use Prim.Native.Nat.{ℕ, _≤_, _<_}
 use native.Mathlib.Omega.{arith}
-use lib.ListN.{length, drop, length-append, length-drop}
+use lib.ListN.{length, drop, getD, length-append, length-drop}
 use lib.Seq.{drop-append-seam}
 use lib.Dec.{eqb, leb}
 use borrow.Author.Tests.{ne-eqb, eq-eqb, eqb-true, eqb-false, leb-true, leb-false, le-leb, lt-leb}
@@ -36,11 +36,12 @@ use Rattle.meant.specs.Notices.{description, notice}
 use Rattle.written_back.specs.First.{firstIn}
 use Rattle.written_back.specs.Replies.{Reply}
 use Rattle.written_back.proofs.Theorems.{reply-one, reply-long}
-use Rattle.message.specs.Cells.{idOf}
+use Rattle.message.specs.Cells.{numbersOf, messageBy, idOf}
 use Rattle.handover.specs.Ids.{eventOf}
-use Rattle.handover.specs.Receiving.{asksReply, movedBy, Owes, nothing-yet, a-notice, a-reply, no-reply, noRoom, told, answerOf, Receives}
+use Rattle.handover.specs.Receiving.{asksReply, movedBy, Owes, nothing-yet, a-notice, a-reply, no-reply, noRoom, told, answerOf, Receives, ReceivesInto}
 use Rattle.handover.specs.Sending as sending
 use Rattle.handover.specs.Sending.{Sends}
+use Rattle.handover.specs.declared.receiving.Receipt.{Receipt}
 use Rattle.handover.specs.declared.receiving.Received.{Received}
 use Rattle.handover.specs.declared.sending.Sent.{Sent}
 use Rattle.handover.proofs.ListedLaws.{Listed, table-listed, meant-listed}
@@ -74,6 +75,22 @@ receive-only {l} {s} {old} {new} {new′} {r} {r′} p q =
     let c = check-only (p .checks) (q .checks) in
     let b = owes-one (p .owes) (subst (λ (c : Checked). Owes s (c .message) (movedBy l (c .refusal) (c .message) .refusal) (q .due)) (sym c) (q .owes)) in
     (p .answer ∙ ap (λ (c : Checked). answerOf l c (p .due) (length old)) c ∙ ap (λ (b : Bytes). answerOf l (q .checked) b (length old)) b ∙ sym (q .answer), (let x = p .buffer in let y = q .buffer in cc))
+
+-- no second result, no other cells and no other buffer satisfy the promise of `receive_into`
+pub receive-into-only : {l : Lane} {s old new new′ : Bytes} {cells cells′ : List ℕ} {r r′ : Receipt} → ReceivesInto l s old new cells r → ReceivesInto l s old new′ cells′ r′ → (r ≡ r′) × (cells ≡ cells′) × (new ≡ new′)
+receive-into-only {cells = cells} {cells′} {r} {r′} p q =
+    let (e, b) = receive-only (p .receives) (q .receives) in
+    let m : messageBy (r .kind) cells (r .id) ≡ messageBy (r′ .kind) cells′ (r′ .id) = ap (λ (x : Received). x .message) e in
+    let n : r .kind ∷ cells ≡ r′ .kind ∷ cells′ = p .told-so .numbers ∙ ap numbersOf m ∙ sym (q .told-so .numbers) in
+    let i : r .id ≡ r′ .id = p .told-so .named ∙ ap idOf m ∙ sym (q .told-so .named) in (
+      same (ap (λ (x : Received). x .refusal) e) (ap (λ (x : Received). x .lane) e) (ap (λ (x : Received). x .order) e) (ap (λ (x : Received). x .used) e) (ap (λ (x : Received). x .written) e) (ap (λ (x : Received). x .place) e) (ap (λ (l : List ℕ). getD l 0 0) n) i,
+      ap (drop 1) n,
+      b,
+    )
+  where
+    same : {a o u w p k a′ o′ u′ w′ p′ k′ : ℕ} {l l′ : Lane} {i i′ : Bytes} → a ≡ a′ → l ≡ l′ → o ≡ o′ → u ≡ u′ → w ≡ w′ → p ≡ p′ → k ≡ k′ → i ≡ i′
+        → _≡_ {A = Receipt} (record { refusal = a; lane = l; order = o; used = u; written = w; place = p; kind = k; id = i }) (record { refusal = a′; lane = l′; order = o′; used = u′; written = w′; place = p′; kind = k′; id = i′ })
+    same a b c d e f g h = cc
 
 -- nor of `send`
 pub send-only : {l : Lane} {m : Message} {texts old new new′ : Bytes} {r r′ : Sent} → Sends l m texts old new r → Sends l m texts old new′ r′ → (r ≡ r′) × (new ≡ new′)

@@ -5,10 +5,11 @@ use mathlib.Core.Bool.{Bool, true, false, _&&_, not, cond}
 use Prim.Native.Nat.{ℕ, _+_, _≤_, _<_}
 use native.Mathlib.Omega.{arith}
 use lib.ListN.{length}
-use lib.Dec.{leb, eqb}
+use lib.Dec.{leb}
 use borrow.Author.Tests.{leb-true, lt-leb}
 use Rattle.exact.specs.Chain.{clash}
-use Rattle.table.specs.Table.{Row, Entry, table, rowsIn, rowsOf, isGuid, guidCellIn}
+use Rattle.table.specs.Table.{Row, table, rowsOf, isGuid, guidCellIn}
+use Rattle.table.specs.Theorems.{each-rows}
 use Rattle.rows.specs.Coding.{RowsAt}
 use Rattle.rows.specs.declared.data.Range.{Range}
 use Rattle.rows.proofs.CodingLaws.{length-rows}
@@ -18,19 +19,6 @@ use Rattle.structs.proofs.KindLaws.{few-rows}
 pub both : (a b : Bool) → a && b ≡ true → (a ≡ true) × (b ≡ true)
 both true b e = (refl, e)
 both false b e = clash (sym e)
-
--- what holds of the rows of each entry holds of the rows of each kind
-abbrev each : (List Row → Bool) → List Entry → Bool
-each f [] = true
-each f (e ∷ l) = f (e .rows) && each f l
-
-each-kind : (f : List Row → Bool) → f [] ≡ true → (l : List Entry) → each f l ≡ true → (k : ℕ) → f (rowsIn l k) ≡ true
-each-kind f z [] e k = z
-each-kind f z (x ∷ l) e k = let (a, b) = both (f (x .rows)) (each f l) e in go (eqb (x .kind) k) a (each-kind f z l b k)
-  where
-    go : (c : Bool) → f (x .rows) ≡ true → f (rowsIn l k) ≡ true → f (cond c (x .rows) (rowsIn l k)) ≡ true
-    go true a b = a
-    go false a b = b
 
 -- at most one row of a kind is a GUID
 abbrev pub noGuid : List Row → Bool
@@ -43,7 +31,7 @@ oneGuid (r ∷ l) = cond (isGuid (r .form)) (noGuid l) (oneGuid l)
 
 pub one-guid : (k : ℕ) → oneGuid (rowsOf k) ≡ true
 unfolding table
-one-guid k = each-kind oneGuid refl table refl k
+one-guid k = each-rows oneGuid table k refl
 
 -- its cell stands among the cells, and behind them if there is none
 abbrev celled : List Row → Bool
@@ -51,7 +39,7 @@ celled l = cond (noGuid l) (leb NUMBERS (guidCellIn NUMBERS l 0)) (leb (guidCell
 
 all-celled : (k : ℕ) → celled (rowsOf k) ≡ true
 unfolding table
-all-celled k = each-kind celled refl table refl k
+all-celled k = each-rows celled table k refl
 
 pub no-guid-cell : (k : ℕ) → noGuid (rowsOf k) ≡ true → leb NUMBERS (guidCellIn NUMBERS (rowsOf k) 0) ≡ true
 no-guid-cell k e = sym (ap (λ (b : Bool). cond b (leb NUMBERS (guidCellIn NUMBERS (rowsOf k) 0)) (leb (guidCellIn NUMBERS (rowsOf k) 0 + 3) NUMBERS)) e) ∙ all-celled k

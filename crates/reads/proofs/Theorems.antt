@@ -1,10 +1,11 @@
--- What the promise of `check` determines, and that what is handed out is the one reading's.
+-- What the promises of `check` and `check_into` determine, and that what is handed out is the one reading's.
 use mathlib.Core.Path.{_≡_, refl, sym, ap, subst, _∙_}
 use mathlib.Core.List.{List}
+use mathlib.Core.List.{List, _∷_}
 use mathlib.Core.Bool.{Bool, cond}
 use Prim.Native.Nat.{ℕ, _-_}
 use native.Mathlib.Omega.{arith}
-use lib.ListN.{take, drop}
+use lib.ListN.{take, drop, getD}
 use borrow.Author.Tests.{eq-eqb}
 use Rattle.grammar.specs.Bytes.{Bytes}
 use Rattle.grammar.specs.Message.{Layout, Laid, readLayout}
@@ -15,8 +16,11 @@ use Rattle.table.specs.Says.{childOf, Said, saidIn}
 use Rattle.message.specs.Fields.{blank}
 use Rattle.message.specs.Checked.{unread, messageIn, placesIn, checkedIn, ChecksBy, ends, more, malformed, too-long}
 use Rattle.message.specs.Handed.{HandedBy}
+use Rattle.message.specs.Cells.{numbersOf, messageBy, idOf}
 use Rattle.message.specs.declared.checking.Checked.{Checked}
 use Rattle.message.specs.declared.kinds.Message.{Message}
+use Rattle.reads.specs.Whole.{handedBy, ChecksInto}
+use Rattle.reads.specs.declared.checking.Found.{Found}
 use Rattle.reads.proofs.OutlineLaws.{there-reads, absent-not}
 
 -- the result of the call for an answer of the paper, by a given table
@@ -59,3 +63,16 @@ handed-out {by} {s} {r} (ends start end p l w e) h = subst (λ (r : Checked). Ha
 handed-out (more start p e) h = absurd (let z = sym (ap (λ (r : Checked). r .refusal) e) ∙ h in omega arith)
 handed-out (malformed start place p e) h = absurd (let z = sym (ap (λ (r : Checked). r .refusal) e) ∙ h in omega arith)
 handed-out (too-long start p e) h = absurd (let z = sym (ap (λ (r : Checked). r .refusal) e) ∙ h in omega arith)
+
+-- no second result, and no other cells, satisfy the promise of `check_into`
+pub into-only : {s : Bytes} {cells cells′ : List ℕ} {r r′ : Found} → ChecksInto s cells r → ChecksInto s cells′ r′ → (r ≡ r′) × (cells ≡ cells′)
+into-only {cells = cells} {cells′} {r} {r′} p q =
+    let e : handedBy r cells ≡ handedBy r′ cells′ = check-only (p .checks) (q .checks) in
+    let m : messageBy (r .kind) cells (r .id) ≡ messageBy (r′ .kind) cells′ (r′ .id) = ap (λ (c : Checked). c .message) e in
+    let n : r .kind ∷ cells ≡ r′ .kind ∷ cells′ = p .told .numbers ∙ ap numbersOf m ∙ sym (q .told .numbers) in
+    let i : r .id ≡ r′ .id = p .told .named ∙ ap idOf m ∙ sym (q .told .named) in
+    (same (ap (λ (c : Checked). c .refusal) e) (ap (λ (l : List ℕ). getD l 0 0) n) (ap (λ (c : Checked). c .start) e) (ap (λ (c : Checked). c .end) e) (ap (λ (c : Checked). c .place) e) i, ap (drop 1) n)
+  where
+    same : {a b c d e a′ b′ c′ d′ e′ : ℕ} {i i′ : Bytes} → a ≡ a′ → b ≡ b′ → c ≡ c′ → d ≡ d′ → e ≡ e′ → i ≡ i′
+        → _≡_ {A = Found} (record { refusal = a; kind = b; start = c; end = d; place = e; id = i }) (record { refusal = a′; kind = b′; start = c′; end = d′; place = e′; id = i′ })
+    same p q r s t u = cc

@@ -1,4 +1,4 @@
--- What the promises of `message_of`, `lay`, `id_of`, `numbers_of`, `kind_in`, `cell`, `clear` and `text_from` determine.
+-- What the promises of `message_of`, `blank`, `lay`, `id_of`, `numbers_of`, `kind_in`, `cell`, `clear` and `text_from` determine.
 use mathlib.Core.Path.{_≡_, sym, _∙_}
 use mathlib.Core.List.{List}
 use Prim.Native.Nat.{ℕ}

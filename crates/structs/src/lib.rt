@@ -5,6 +5,7 @@ mod numbers;
 
 pub use laying::id_of;
 pub use laying::lay;
+pub use making::blank;
 pub use making::message_of;
 pub use numbers::NUMBERS;
 pub use numbers::cell;

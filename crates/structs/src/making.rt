@@ -5,7 +5,7 @@ ghost use mathlib.Core.Bool.{_||_, cond};
 ghost use Prim.Native.Nat.{_≤_};
 ghost use lib.Dec.{eqb};
 ghost use Rattle.table.specs.Table.{rowsOf};
-ghost use Rattle.message.specs.Fields.{messageFrom};
+ghost use Rattle.message.specs.Fields.{messageFrom, blank as blankOf};
 ghost use Rattle.message.specs.Cells.{cellAt, bit as bitOf, fieldsFrom};
 ghost use Rattle.structs.specs.Made.{wordsAt, wholeAt, measureAt, guidAt, featuresAt, serviceIn, noticeIn, boardIn, readyIn, startIn, transferIn, aliveIn};
 use crate::numbers::cell;
@@ -232,4 +232,12 @@ pub fn message_of(kind: u8, cells: &[u64], id: [u8; 36]) -> Message
         transfer: moved,
         alive: alive,
     }
+}
+
+/// A message of that kind, in which nothing is there.
+pub fn blank(kind: u8) -> Message
+    ensures { λ r. ⌜ r ≡ blankOf kind ⌝ }
+{
+    let none = [0u64; 1];
+    message_of(kind, &none[..0], [0u8; 36])
 }
