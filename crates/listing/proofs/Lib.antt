@@ -1,4 +1,1 @@
-pub mod LineLaws
-pub mod StepLaws
-pub mod WindowLaws
 pub mod ListLaws

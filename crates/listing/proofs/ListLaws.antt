@@ -1,16 +1,16 @@
 -- The loop of the program is a chain of turns.
-use mathlib.Core.Path.{_≡_, refl, subst}
+use mathlib.Core.Path.{_≡_, refl, sym, subst}
 use mathlib.Core.List.{[], _++_}
 use mathlib.Core.Bool.{Bool, true, false}
 use Prim.Native.Nat.{ℕ, zero, suc, _+_, _≤_}
 use native.Mathlib.Omega.{arith}
 use lib.ListN.{length, take}
 use Rattle.grammar.specs.Bytes.{Bytes}
-use Rattle.listing.specs.Held.{Held, ToppedUp, Turned}
-use Rattle.listing.specs.Printed.{left}
+use Rattle.windows.specs.Held.{fresh, Held, ToppedUp, Turned}
+use Rattle.windows.specs.Printed.{left}
 use Rattle.listing.specs.Turns.{At, start, Turn, gives, Past, past-start, past-turn, TURNS, Ended, Stopped, Unended}
-use Rattle.listing.specs.declared.window.Window.{Window}
-use Rattle.listing.specs.declared.Stand.{Stand}
+use Rattle.windows.specs.declared.window.Window.{Window}
+use Rattle.windows.specs.declared.turn.Stand.{Stand}
 
 -- where the loop is
 abbrev pub at : Window → Bytes → ℕ → Bytes → At
@@ -26,16 +26,20 @@ pub record Going (turns : ℕ) (w : Window) (buf : Bytes) (waiting : ℕ) (out :
   pub past : Past k input given (at w buf waiting out)
   pub counted : turns + k ≡ TURNS
 
-pub going-start : (buf out : Bytes) → Going TURNS (start buf out .window) buf 0 out
-going-start buf out = record { held = record { front = omega arith; back = omega arith }; waits = omega arith; k = zero; input = []; given = []; past = past-start buf out; counted = omega arith }
+going-start : (buf out : Bytes) → Going TURNS (start buf out .window) buf 0 out
+going-start buf out = record { held = record { front = omega arith; back = omega arith; room = λ _. omega arith }; waits = omega arith; k = zero; input = []; given = []; past = past-start buf out; counted = omega arith }
+
+pub going-opened : (buf out : Bytes) {w : Window} → w ≡ fresh → Going TURNS w buf 0 out
+going-opened buf out e = subst (λ (w : Window). Going TURNS w buf 0 out) (sym e) (going-start buf out)
 
 -- a turn of the loop
-module _ {turns : ℕ} {w v : Window} {buf out new printed : Bytes} {waiting r : ℕ} {s : Stand} (g : Going turns w buf waiting out) (t : ToppedUp w buf v new) (e : r ≡ left (length out) waiting) (u : Turned new v out r printed s) where
+module _ {turns : ℕ} {w v : Window} {buf out new printed : Bytes} {waiting r : ℕ} {s : Stand} (g : Going turns w buf waiting out) (t : ToppedUp w buf v new) (e : r ≡ left (w .dry) (length out) waiting) (u : Turned new v out r printed s) where
   abbrev turn : {done : Bool} → s .done ≡ done → Turn (at w buf waiting out) done (at (s .window) new (s .waiting) printed)
   turn {done} d = record {
     held = v;
+    refusal = s .refusal;
     topped = t;
-    turned = subst (λ (z : Bool). Turned new v out (left (length out) waiting) printed (record { window = s .window; waiting = s .waiting; done = z })) d (subst (λ (k : ℕ). Turned new v out k printed s) e u);
+    turned = subst (λ (z : Bool). Turned new v out (left (w .dry) (length out) waiting) printed (record { window = s .window; waiting = s .waiting; done = z; refusal = s .refusal })) d (subst (λ (k : ℕ). Turned new v out k printed s) e u);
   }
 
   pub going-on : (rest : ℕ) → turns ≡ rest + 1 → s .done ≡ false → Going rest (s .window) new (s .waiting) printed

@@ -1,5 +1,3 @@
-pub mod Printed
-pub mod Held
 pub mod Turns
 pub mod Theorems
 pub mod Prints

@@ -18,11 +18,11 @@ use Rattle.lines.specs.Unique.{line-moves}
 use Rattle.lines.specs.Theorems.{line-within, drop-within, start-within, end-within, list-exact}
 use Rattle.lines.specs.declared.Listed.{Listed}
 use Rattle.lines.specs.declared.Listed.the-variants.{Line, Drop, End}
-use Rattle.listing.specs.Held.{bytesOf, without, next, ends}
-use Rattle.listing.specs.Printed.{in64, lineIn64, linesIn64, lastIn64, linePrinted, stepPrinted, roomy, handed, left}
+use Rattle.windows.specs.Held.{bytesOf, without, next, ends}
+use Rattle.windows.specs.Printed.{in64, lineIn64, linesIn64, lastIn64, linePrinted, stepPrinted, roomy, handed, left}
 use Rattle.listing.specs.Turns.{At, Turn, gives, Past, past-start, past-turn, Finished}
 use Rattle.listing.specs.Theorems.{without-long, Goes, turn-goes}
-use Rattle.listing.specs.declared.window.Window.{Window}
+use Rattle.windows.specs.declared.window.Window.{Window}
 
 -- a place counted from a base that is n in 64 bits
 from-base : (n k : ℕ) {base : ℕ} → base ≡ in64 n → in64 (base + k) ≡ in64 (n + k)
@@ -40,17 +40,18 @@ lines-snoc [] y = append-nil (lineText (lineIn64 y))
 lines-snoc (l ∷ ls) y = ap (λ (t : Bytes). lineText (lineIn64 l) ++ t) (lines-snoc ls y) ∙ sym (append-assoc (lineText (lineIn64 l)) (linesText (linesIn64 ls)) (lineText (lineIn64 y)))
 
 -- where room is made no byte is lost
-handed-all : (out : Bytes) (at : ℕ) → handed out at ++ take (left (length out) at) out ≡ take at out
-handed-all out at = cases (roomy (length out) at) (λ e. rw e) (λ e. rw e (append-nil (take at out)))
+handed-all : (dry : Bool) (out : Bytes) (at : ℕ) → handed dry out at ++ take (left dry (length out) at) out ≡ take at out
+handed-all true out at = append-nil (take at out)
+handed-all false out at = cases (roomy (length out) at) (λ e. rw e) (λ e. rw e (append-nil (take at out)))
 
 -- a turn adds what its step prints
 turn-text : {a b : At} {done : Bool} (given : Bytes) (t : Turn a done b) → (given ++ gives a) ++ take (b .waiting) (b .out) ≡ (given ++ take (a .waiting) (a .out)) ++ stepPrinted (t .held .base) (t .turned .listed)
 turn-text {a} {b} given t =
     let step = stepPrinted (t .held .base) (t .turned .listed) in
-    let before = take (left (length (a .out)) (a .waiting)) (a .out) in
+    let before = take (left (a .window .dry) (length (a .out)) (a .waiting)) (a .out) in
     append-assoc given (gives a) (take (b .waiting) (b .out))
     ∙ ap (λ (y : Bytes). given ++ (gives a ++ y)) (wrote-behind (t .turned .printed .wrote) (t .turned .printed .inside))
-    ∙ ap (λ (y : Bytes). given ++ y) (sym (append-assoc (gives a) before step) ∙ ap (λ (y : Bytes). y ++ step) (handed-all (a .out) (a .waiting)))
+    ∙ ap (λ (y : Bytes). given ++ y) (sym (append-assoc (gives a) before step) ∙ ap (λ (y : Bytes). y ++ step) (handed-all (a .window .dry) (a .out) (a .waiting)))
     ∙ sym (append-assoc given (take (a .waiting) (a .out)) step)
 
 -- how many bytes are held
@@ -62,8 +63,8 @@ pub topped-long : {a b : At} {done : Bool} (t : Turn a done b) → length (bytes
 topped-long {a} t = ap length (t .topped .bytes) ∙ length-append (bytesOf (a .window) (a .buf)) (t .topped .more)
 
 -- and when n of them are dropped
-pub left-long : {a b : At} {done : Bool} (t : Turn a done b) (n : ℕ) → b .window ≡ without (t .held) n → holds b ≡ length (bytesOf (t .held) (b .buf)) - n
-left-long {b = b} t n e = ap (λ (w : Window). length (bytesOf w (b .buf))) e ∙ without-long (t .held) n (b .buf)
+pub left-long : {a b : At} {done : Bool} (t : Turn a done b) (n : ℕ) (dry : Bool) → b .window ≡ without (t .held) n dry → holds b ≡ length (bytesOf (t .held) (b .buf)) - n
+left-long {b = b} t n dry e = ap (λ (w : Window). length (bytesOf w (b .buf))) e ∙ without-long (t .held) n dry (b .buf)
 
 -- after some turns: of the bytes read, n are dropped and the others held, and `lines` are printed. The window's base is n; what was handed
 -- out and what waits is their text; and a run that goes on from the window makes a run from the start. `rest` is to come: nothing, if
@@ -99,7 +100,7 @@ sofar-turn {input} {given} {a} {b} p t =
         let y : MessageLine = record { start = p .n + start; end = p .n + end; kind = kind; refusal = refusal } in record {
           n = p .n + end;
           lines = p .lines ++ (y ∷ []);
-          count = omega (arith, p .count, topped-long t, left-long t end e, line-within s .1, length-append input more);
+          count = omega (arith, p .count, topped-long t, left-long t end false e, line-within s .1, length-append input more);
           base = ap (λ (v : Window). v .base) e ∙ from-base (p .n) end base;
           texts = i ∙ ap (λ (b : Bytes). linesText (linesIn64 (p .lines)) ++ b) (line-from-base (p .n) start end kind refusal base) ∙ sym (lines-snoc (p .lines) y);
           goes = λ rest l z h r. let k : t .held .last ≡ true → rest ≡ [] = λ q. h (ap (λ (v : Window). v .last) e ∙ q) in subst (λ (m : List MessageLine). Run 0 [] ((input ++ more) ++ rest) m z) (sym (append-assoc (p .lines) (y ∷ []) l)) (before rest (y ∷ l) z k (g rest k l z r));
@@ -107,7 +108,7 @@ sofar-turn {input} {given} {a} {b} p t =
     go (Drop glue) s e f i g = record {
       n = p .n + glue;
       lines = p .lines;
-      count = omega (arith, p .count, topped-long t, left-long t glue e, drop-within s, length-append input more);
+      count = omega (arith, p .count, topped-long t, left-long t glue true e, drop-within s, length-append input more);
       base = ap (λ (v : Window). v .base) e ∙ from-base (p .n) glue base;
       texts = i ∙ append-nil (linesText (linesIn64 (p .lines)));
       goes = λ rest l z h r. let k : t .held .last ≡ true → rest ≡ [] = λ q. h (ap (λ (v : Window). v .last) e ∙ q) in before rest l z k (g rest k l z r);

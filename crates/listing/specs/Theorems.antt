@@ -12,9 +12,9 @@ use Rattle.lines.specs.Step.{ListStep}
 use Rattle.lines.specs.Runs.{Run, run-read, run-line, run-drop, run-end}
 use Rattle.lines.specs.declared.Listed.{Listed}
 use Rattle.lines.specs.declared.Listed.the-variants.{Line, Drop, End}
-use Rattle.listing.specs.Held.{bytesOf, ToppedUp, without, next, Turned}
-use Rattle.listing.specs.declared.window.Window.{Window}
-use Rattle.listing.specs.declared.Stand.{Stand}
+use Rattle.windows.specs.Held.{bytesOf, ToppedUp, without, next, Turned}
+use Rattle.windows.specs.declared.window.Window.{Window}
+use Rattle.windows.specs.declared.turn.Stand.{Stand}
 
 drop-drop : (m n : ℕ) (b : Bytes) → drop (m + n) b ≡ drop n (drop m b)
 drop-drop m n [] = drop-nil (m + n) ∙ sym (drop-nil n) ∙ ap (drop n) (sym (drop-nil m))
@@ -28,13 +28,13 @@ drop-take (suc n) zero (x ∷ b) = let e : 0 ≡ zero - suc n = omega arith in a
 drop-take (suc n) (suc k) (x ∷ b) = let e : k - n ≡ suc k - suc n = omega arith in drop-take n k b ∙ ap (λ (k : ℕ). take k (drop n b)) e
 
 -- a window without its first bytes holds what is left of its bytes
-pub without-bytes : (w : Window) (n : ℕ) (b : Bytes) → bytesOf (without w n) b ≡ drop n (bytesOf w b)
-without-bytes w n b =
+pub without-bytes : (w : Window) (n : ℕ) (dry : Bool) (b : Bytes) → bytesOf (without w n dry) b ≡ drop n (bytesOf w b)
+without-bytes w n dry b =
     let e : w .len - (w .at + n) ≡ w .len - w .at - n = omega arith in
     ap (λ (k : ℕ). take k (drop (w .at + n) b)) e ∙ ap (take (w .len - w .at - n)) (drop-drop (w .at) n b) ∙ sym (drop-take n (w .len - w .at) (drop (w .at) b))
 
-pub without-long : (w : Window) (n : ℕ) (b : Bytes) → length (bytesOf (without w n) b) ≡ length (bytesOf w b) - n
-without-long w n b = ap length (without-bytes w n b) ∙ length-drop n (bytesOf w b)
+pub without-long : (w : Window) (n : ℕ) (dry : Bool) (b : Bytes) → length (bytesOf (without w n dry) b) ≡ length (bytesOf w b) - n
+without-long w n dry b = ap length (without-bytes w n dry b) ∙ length-drop n (bytesOf w b)
 
 -- what a turn adds to a run, by its step: from n dropped bytes, `before` held and `rest` to come, to `after` held and `later` to come
 abbrev pub Goes : ℕ → Bytes → Bytes → Bytes → Bytes → Listed → Type 0
@@ -50,10 +50,10 @@ turn-goes {w} {r} {old} {new} {s = s} t u n later h = go (u .listed) (u .step) (
     from : {l : List MessageLine} {z : LastLine} → Run n (bytesOf r new) later l z → Run n (bytesOf w old) (t .more ++ later) l z
     from {l} {z} p = run-read (t .more) later refl (subst (λ (y : Bytes). Run n y later l z) (t .bytes) p)
 
-    left : (k : ℕ) → s .window ≡ without r k → bytesOf (s .window) new ≡ drop k (bytesOf r new)
-    left k e = ap (λ (v : Window). bytesOf v new) e ∙ without-bytes r k new
+    left : (k : ℕ) (dry : Bool) → s .window ≡ without r k dry → bytesOf (s .window) new ≡ drop k (bytesOf r new)
+    left k dry e = ap (λ (v : Window). bytesOf v new) e ∙ without-bytes r k dry new
 
     go : (x : Listed) → ListStep (bytesOf r new) (r .last) x → s .window ≡ next r x → Goes n (bytesOf w old) (t .more ++ later) (bytesOf (s .window) new) later x
-    go (Line start end kind refusal) p e = λ l z q. from (run-line (r .last) start end kind refusal h p refl (subst (λ (y : Bytes). Run (n + end) y later l z) (left end e) q))
-    go (Drop glue) p e = λ l z q. from (run-drop glue (subst (λ (b : Bool). ListStep (bytesOf r new) b (Drop glue)) (p .shows .1) p) (subst (λ (y : Bytes). Run (n + glue) y later l z) (left glue e) q))
+    go (Line start end kind refusal) p e = λ l z q. from (run-line (r .last) start end kind refusal h p refl (subst (λ (y : Bytes). Run (n + end) y later l z) (left end false e) q))
+    go (Drop glue) p e = λ l z q. from (run-drop glue (subst (λ (b : Bool). ListStep (bytesOf r new) b (Drop glue)) (p .shows .1) p) (subst (λ (y : Bytes). Run (n + glue) y later l z) (left glue true e) q))
     go (End place answer) p e = from (run-end (r .last) place answer h p refl)

@@ -5,9 +5,9 @@ use mathlib.Core.Bool.{Bool, true, false}
 use Prim.Native.Nat.{ℕ, zero, suc}
 use lib.ListN.{length, take}
 use Rattle.grammar.specs.Bytes.{Bytes}
-use Rattle.listing.specs.Held.{ToppedUp, Turned}
-use Rattle.listing.specs.Printed.{handed, left}
-use Rattle.listing.specs.declared.window.Window.{Window}
+use Rattle.windows.specs.Held.{fresh, ToppedUp, Turned}
+use Rattle.windows.specs.Printed.{handed, left}
+use Rattle.windows.specs.declared.window.Window.{Window}
 
 -- where the program is: the window and the buffer that it lies in, how much of the output waits and the buffer that it waits in
 pub record At : Type 0 where
@@ -18,17 +18,18 @@ pub record At : Type 0 where
 
 -- at the start nothing is held, nothing is counted and nothing waits
 abbrev pub start : Bytes → Bytes → At
-start buf out = record { window = record { base = 0; at = 0; len = 0; last = false; failed = false }; buf = buf; waiting = 0; out = out }
+start buf out = record { window = fresh; buf = buf; waiting = 0; out = out }
 
--- one turn, done if its line is the last: the window is topped up, room is made for a line, and a step is printed
+-- one turn, done if its line is the last: room is made for a line, the window is topped up, and a step is printed
 pub record Turn (a : At) (done : Bool) (b : At) : Type 0 where
   pub held : Window
+  pub refusal : ℕ
   pub topped : ToppedUp (a .window) (a .buf) held (b .buf)
-  pub turned : Turned (b .buf) held (a .out) (left (length (a .out)) (a .waiting)) (b .out) (record { window = b .window; waiting = b .waiting; done = done })
+  pub turned : Turned (b .buf) held (a .out) (left (a .window .dry) (length (a .out)) (a .waiting)) (b .out) (record { window = b .window; waiting = b .waiting; done = done; refusal = refusal })
 
 -- what a turn hands to the system
 abbrev pub gives : At → Bytes
-gives a = handed (a .out) (a .waiting)
+gives a = handed (a .window .dry) (a .out) (a .waiting)
 
 -- after k turns `input` is read and `given` is handed to the system
 pub data Past : (k : ℕ) (input given : Bytes) → At → Type 0 where

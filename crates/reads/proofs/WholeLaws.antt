@@ -25,7 +25,7 @@ use Rattle.reads.proofs.OutlineLaws.{child, parts, accepted, answers, a
 
 module _ {s : Bytes} {start end from to count inside : ℕ} {old new : List ℕ} (a : Accepted s start end from to count inside old new) where
   -- what holds of the element that the table describes holds of the reading's
-  as-read : {X : Type 0} (F : ℕ → (Bytes → Words) → Tree → X) → F (kindOf (take (to - from) (drop from s))) (place (accepted-held a)) (tree (take (to - from) (drop from s)) (pairs (accepted-held a)) (childrenOf (readElement (child a)))) ≡ F (saidOf (readLayout (a .layout)) .kind) (placesIn start (a .layout)) (childOf (readLayout (a .layout)))
+  pub as-read : {X : Type 0} (F : ℕ → (Bytes → Words) → Tree → X) → F (kindOf (take (to - from) (drop from s))) (place (accepted-held a)) (tree (take (to - from) (drop from s)) (pairs (accepted-held a)) (childrenOf (readElement (child a)))) ≡ F (saidOf (readLayout (a .layout)) .kind) (placesIn start (a .layout)) (childOf (readLayout (a .layout)))
   unfolding placeOf accepted-held
   as-read F =
       ap (λ (n : Bytes). F (kindOf n) (placeOf to (tagIn (child a) .attributes)) (tree n (readAttributes (tagIn (child a) .attributes)) (childrenOf (readElement (child a))))) (parts a .name)

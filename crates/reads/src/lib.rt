@@ -3,12 +3,12 @@
 mod cells;
 mod checking;
 mod features;
-mod find;
+pub mod find;
 mod first;
 mod ids;
 mod judge;
-mod tried;
-mod trying;
+pub mod tried;
+pub mod trying;
 mod whole;
 
 pub use checking::Found;

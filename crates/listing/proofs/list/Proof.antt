@@ -4,8 +4,8 @@ use Prim.Native.Nat.{ℕ, _-_}
 use native.Mathlib.Omega.{arith}
 use lib.ListN.{length}
 use borrow.Author.Needs.{needs}
-use Rattle.listing.proofs.ListLaws.{Going, going-start, going-on, going-ends, going-stops, going-out}
-use Rattle.listing.proofs.LineLaws.{left-room}
+use Rattle.windows.proofs.LineLaws.{left-room}
+use Rattle.listing.proofs.ListLaws.{Going, going-opened, going-on, going-ends, going-stops, going-out}
 use Rattle.listing.proofs.list.Statement.{statement}
 use Rattle.listing.proofs.list.Tie as tie
 
@@ -15,14 +15,14 @@ Inv-loop buf₀ out₀ w₀ waiting₀ turns₀ buf out w waiting turns = (lengt
 abbrev μ-loop : tie.MeasureT-loop
 μ-loop buf₀ out₀ w₀ waiting₀ turns₀ buf out w waiting turns = turns
 
+opened-requires : tie.Need-opened-requires Inv-loop μ-loop
+opened-requires c κs = tt
+
 loop-holds : tie.Need-loop-holds Inv-loop μ-loop
-loop-holds c = (refl, refl, going-start _ _)
+loop-holds c = (refl, refl, going-opened _ _ (c .opened .ensures))
 
-topped-up-requires : tie.Need-topped-up-requires Inv-loop μ-loop
-topped-up-requires c κs = (c .before .before .loop .inv .2 .held, omega arith)
-
-flush-requires : tie.Need-flush-requires Inv-loop μ-loop
-flush-requires c κs = c .before .before .before .before .before .before .before .loop .inv .2 .waits
+made-room-requires : tie.Need-made-room-requires Inv-loop μ-loop
+made-room-requires c κs = (c .before .before .loop .inv .2 .waits, omega arith)
 
 same-length : tie.Need-same-length Inv-loop μ-loop
 same-length c = search needs
@@ -31,16 +31,10 @@ same-length-2 : tie.Need-same-length-2 Inv-loop μ-loop
 same-length-2 c = search needs
 
 returns : tie.Need-returns Inv-loop μ-loop
-returns c = ((λ e. absurd (let z : _≡_ {A = ℕ} 0 1 = cc in omega arith)), (λ _. going-stops (c .before .before .before .before .before .before .before .before .loop .inv .2) (c .before .before .before .before .before .topped-up .ensures) (c .before .before .if1 .taken), (λ e. absurd (let z : _≡_ {A = ℕ} 0 1 = cc in omega arith))))
+returns c = ((λ e. absurd (let z : _≡_ {A = ℕ} 0 1 = cc in omega arith)), ((λ e. absurd (let z : _≡_ {A = ℕ} 0 1 = cc in omega arith)), (λ e. absurd (let z : _≡_ {A = ℕ} 0 1 = cc in omega arith))))
 
-made-room-requires : tie.Need-made-room-requires Inv-loop μ-loop
-made-room-requires c κs = (c .before .before .before .before .before .before .before .loop .inv .2 .waits, omega arith)
-
-turn-requires : tie.Need-turn-requires Inv-loop μ-loop
-turn-requires c κs = (c .before .before .before .before .before .before .before .topped-up .ensures .held, left-room (length (c .before .before .before .before .before .before .before .before .before .before .loop .out)) (c .before .before .before .before .before .before .before .before .before .before .loop .waiting) (c .before .before .made-room .ensures) (omega arith))
-
-flush-requires-2 : tie.Need-flush-requires-2 Inv-loop μ-loop
-flush-requires-2 c κs = c .before .before .before .before .before .turn .ensures .printed .inside
+topped-up-requires : tie.Need-topped-up-requires Inv-loop μ-loop
+topped-up-requires c κs = (c .before .before .before .before .before .before .loop .inv .2 .held, omega arith)
 
 same-length-3 : tie.Need-same-length-3 Inv-loop μ-loop
 same-length-3 c = search needs
@@ -49,7 +43,22 @@ same-length-4 : tie.Need-same-length-4 Inv-loop μ-loop
 same-length-4 c = search needs
 
 returns-2 : tie.Need-returns-2 Inv-loop μ-loop
-returns-2 c = ((λ _. going-ends (c .before .before .before .before .before .before .before .before .before .before .before .before .before .before .before .before .before .loop .inv .2) (c .before .before .before .before .before .before .before .before .before .before .before .before .before .before .topped-up .ensures) (c .before .before .before .before .before .before .before .before .before .made-room .ensures) (c .before .before .before .before .before .before .turn .ensures) (c .before .before .if2 .taken)), ((λ e. absurd (let z : _≡_ {A = ℕ} 0 1 = cc in omega arith)), (λ e. absurd (let z : _≡_ {A = ℕ} 0 1 = cc in omega arith))))
+returns-2 c = ((λ e. absurd (let z : _≡_ {A = ℕ} 0 1 = cc in omega arith)), ((λ _. going-stops (c .before .before .before .before .before .before .before .before .before .before .loop .inv .2) (c .before .before .before .topped-up .ensures) (c .if2 .taken)), (λ e. absurd (let z : _≡_ {A = ℕ} 0 1 = cc in omega arith))))
+
+turn-requires : tie.Need-turn-requires Inv-loop μ-loop
+turn-requires c κs = (c .before .before .before .before .before .topped-up .ensures .held, left-room (c .before .before .before .before .before .before .before .before .before .before .before .before .loop .w .dry) (length (c .before .before .before .before .before .before .before .before .before .before .before .before .loop .out)) (c .before .before .before .before .before .before .before .before .before .before .before .before .loop .waiting) (c .before .before .before .before .before .before .before .before .before .made-room .ensures) (omega arith))
+
+ended-requires : tie.Need-ended-requires Inv-loop μ-loop
+ended-requires c κs = c .before .before .before .before .before .turn .ensures .printed .inside
+
+same-length-5 : tie.Need-same-length-5 Inv-loop μ-loop
+same-length-5 c = omega (arith, c .before .before .before .before .before .before .before .before .before .before .before .buf .given, c .before .before .before .before .before .before .before .before .before .before .before .before .before .before .before .before .before .before .before .loop .inv .0)
+
+same-length-6 : tie.Need-same-length-6 Inv-loop μ-loop
+same-length-6 c = omega (arith, c .before .before .before .before .before .out .given, c .before .before .before .before .before .before .before .before .before .before .before .before .before .before .before .before .before .before .before .loop .inv .1)
+
+returns-3 : tie.Need-returns-3 Inv-loop μ-loop
+returns-3 c = ((λ _. going-ends (c .before .before .before .before .before .before .before .before .before .before .before .before .before .before .before .before .before .before .before .loop .inv .2) (c .before .before .before .before .before .before .before .before .before .before .before .before .topped-up .ensures) (c .before .before .before .before .before .before .before .before .before .before .before .before .before .before .before .before .made-room .ensures) (c .before .before .before .before .before .before .turn .ensures) (c .before .before .if3 .taken)), ((λ e. absurd (c .ended .ensures .0 e)), (λ e. absurd (c .ended .ensures .1 e))))
 
 sub-turns : tie.Need-sub-turns Inv-loop μ-loop
 sub-turns c = search needs
@@ -58,16 +67,16 @@ loop-less : tie.Need-loop-less Inv-loop μ-loop
 loop-less c = search needs
 
 loop-again : tie.Need-loop-again Inv-loop μ-loop
-loop-again c = (search needs, search needs, going-on (c .before .before .before .before .before .before .before .before .before .before .before .before .before .before .before .loop .inv .2) (c .before .before .before .before .before .before .before .before .before .before .before .before .topped-up .ensures) (c .before .before .before .before .before .before .before .made-room .ensures) (c .before .before .before .before .turn .ensures) (c .before .before .before .before .before .before .before .before .before .before .before .before .before .before .before .loop .turns - 1) (omega (arith, c .before .before .before .before .before .before .before .before .before .before .before .before .before .before .loop-test .taken)) (c .if2 .left))
+loop-again c = (search needs, search needs, going-on (c .before .before .before .before .before .before .before .before .before .before .before .before .before .before .before .before .before .loop .inv .2) (c .before .before .before .before .before .before .before .before .before .before .topped-up .ensures) (c .before .before .before .before .before .before .before .before .before .before .before .before .before .before .made-room .ensures) (c .before .before .before .before .turn .ensures) (c .before .before .before .before .before .before .before .before .before .before .before .before .before .before .before .before .before .loop .turns - 1) (omega (arith, c .before .before .before .before .before .before .before .before .before .before .before .before .before .before .before .before .loop-test .taken)) (c .if3 .left))
 
-same-length-5 : tie.Need-same-length-5 Inv-loop μ-loop
-same-length-5 c = search needs
+same-length-7 : tie.Need-same-length-7 Inv-loop μ-loop
+same-length-7 c = search needs
 
-same-length-6 : tie.Need-same-length-6 Inv-loop μ-loop
-same-length-6 c = search needs
+same-length-8 : tie.Need-same-length-8 Inv-loop μ-loop
+same-length-8 c = search needs
 
-returns-3 : tie.Need-returns-3 Inv-loop μ-loop
-returns-3 c = ((λ e. absurd (let z : _≡_ {A = ℕ} 0 1 = cc in omega arith)), ((λ e. absurd (let z : _≡_ {A = ℕ} 0 1 = cc in omega arith)), λ _. going-out (c .before .loop .inv .2) (omega (arith, c .loop-test .left))))
+returns-4 : tie.Need-returns-4 Inv-loop μ-loop
+returns-4 c = ((λ e. absurd (let z : _≡_ {A = ℕ} 0 1 = cc in omega arith)), ((λ e. absurd (let z : _≡_ {A = ℕ} 0 1 = cc in omega arith)), λ _. going-out (c .before .loop .inv .2) (omega (arith, c .loop-test .left))))
 
 pub list-spec : {M : Type 1} → statement M
 list-spec =
@@ -75,21 +84,24 @@ list-spec =
     (tie.spec
     Inv-loop
     μ-loop
+    opened-requires
     loop-holds
-    topped-up-requires
-    flush-requires
+    made-room-requires
     same-length
     same-length-2
     returns
-    made-room-requires
-    turn-requires
-    flush-requires-2
+    topped-up-requires
     same-length-3
     same-length-4
     returns-2
+    turn-requires
+    ended-requires
+    same-length-5
+    same-length-6
+    returns-3
     sub-turns
     loop-less
     loop-again
-    same-length-5
-    same-length-6
-    returns-3)
+    same-length-7
+    same-length-8
+    returns-4)

@@ -1,0 +1,2 @@
+-- For contracts: the line that tells what decided.
+pub mod Reason

@@ -1,0 +1,59 @@
+use Rattle.windows.proofs.WindowLaws.{Moved, move-start, move-one, moved-all}
+use mathlib.Core.Path.{_≡_, refl, sym, ap, _∙_}
+use Prim.Native.Nat.{_+_, _-_, _≤_}
+use native.Mathlib.Omega.{arith}
+use lib.ListN.{length}
+use borrow.Author.Needs.{needs}
+use Rattle.windows.proofs.window.move_to_front.Statement.{statement}
+use Rattle.windows.proofs.window.move_to_front.Tie as tie
+use Rattle.windows.proofs.window.move_to_front.Reads as reads
+use Rattle.windows.proofs.window.move_to_front.Lts as lts
+
+abbrev Inv-loop : tie.InvT-loop
+Inv-loop buf₀ from n i₀ buf i = Moved buf₀ from n buf i
+
+abbrev μ-loop : tie.MeasureT-loop
+μ-loop buf₀ from n i₀ buf i = n - i
+
+loop-holds : tie.Need-loop-holds Inv-loop μ-loop
+loop-holds c = move-start (c .args .buf .now) (c .args .from) (c .args .n) (omega arith)
+
+add-buf : tie.Need-add-buf Inv-loop μ-loop
+add-buf c = omega arith
+
+slice-read-buf : tie.Need-slice-read-buf Inv-loop μ-loop
+slice-read-buf c = omega arith
+
+slice-write-buf : tie.Need-slice-write-buf Inv-loop μ-loop
+slice-write-buf c = omega arith
+
+add-i : tie.Need-add-i Inv-loop μ-loop
+add-i c = omega arith
+
+loop-less : tie.Need-loop-less Inv-loop μ-loop
+loop-less c = omega arith
+
+loop-again : tie.Need-loop-again Inv-loop μ-loop
+loop-again c = move-one (c .before .before .loop .inv) (omega arith)
+
+same-length : tie.Need-same-length Inv-loop μ-loop
+same-length c = c .before .loop .inv .long
+
+returns : tie.Need-returns Inv-loop μ-loop
+returns c = moved-all (c .before .loop .inv) (omega arith)
+
+pub move-to-front-spec : {M : Type 1} → statement M
+move-to-front-spec =
+    tie.close
+    (tie.spec
+    Inv-loop
+    μ-loop
+    loop-holds
+    add-buf
+    slice-read-buf
+    slice-write-buf
+    add-i
+    loop-less
+    loop-again
+    same-length
+    returns)
