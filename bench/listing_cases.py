@@ -79,6 +79,10 @@ GOOD = [
     (message(b"<%s %s='1'/>" % (b"N" * 64, b"n" * 64)), 0, 0),
     (message(b"<checkalive Type='9'/>", before=b"\n\t", after=b" ", shut=b"\r\n"), 0, 0),
     (alive(MESSAGE), 10, 0),
+    (message(b'<MachineReady FailedBoard="0" ForecastId="%s"/>' % (b"f" * 80)), 5, 0),
+    (message(b'<MachineReady FailedBoard="0" ForecastId="%s"/>' % (b"f" * 81)), 5, 5),
+    (message(b'<BoardForecast ForecastId="F 7" TimeUntilAvailable="12.5" FailedBoard="0" FlippedBoard="1"/>'), 11, 0),
+    (message(b"<BoardForecast/>"), 11, 4),
 ]
 
 # a malformed message, and the place in it

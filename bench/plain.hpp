@@ -19,10 +19,10 @@ struct Row {
     bool optional;
 };
 
-inline const char *const KINDS[11] = {"",           "ServiceDescription", "Notification",   "BoardAvailable", "RevokeBoardAvailable", "MachineReady",
-                                      "RevokeMachineReady", "StartTransport",     "StopTransport", "TransportFinished", "CheckAlive"};
+inline const char *const KINDS[12] = {"",           "ServiceDescription", "Notification",   "BoardAvailable", "RevokeBoardAvailable", "MachineReady",
+                                      "RevokeMachineReady", "StartTransport",     "StopTransport", "TransportFinished", "CheckAlive", "BoardForecast"};
 
-inline const Row TABLE[11][16] = {
+inline const Row TABLE[12][18] = {
     {},
     {{"MachineId", TEXT, 0, 80, false}, {"LaneId", INT, 1, 65535, false}, {"Version", VERSION, 0, 0, false}},
     {{"NotificationCode", INT, 1, 65535, false}, {"Severity", INT, 1, 4, false}, {"Description", TEXT, 0, 254, false}},
@@ -32,12 +32,17 @@ inline const Row TABLE[11][16] = {
      {"TopClearanceHeight", POSITIVE, 0, 0, true}, {"BottomClearanceHeight", POSITIVE, 0, 0, true}, {"Weight", POSITIVE, 0, 0, true},
      {"WorkOrderId", TEXT, 0, 80, true}},
     {},
-    {{"FailedBoard", INT, 0, 2, false}},
+    {{"FailedBoard", INT, 0, 2, false}, {"ForecastId", TEXT, 0, 80, true}},
     {},
     {{"BoardId", GUID, 0, 0, false}, {"ConveyorSpeed", POSITIVE, 0, 0, true}},
     {{"TransferState", INT, 1, 3, false}, {"BoardId", GUID, 0, 0, false}},
     {{"TransferState", INT, 1, 3, false}, {"BoardId", GUID, 0, 0, false}},
     {{"Type", INT, 1, 2, true}, {"Id", TEXT, 0, 80, true}},
+    {{"ForecastId", TEXT, 0, 80, true}, {"TimeUntilAvailable", POSITIVE, 0, 0, true}, {"BoardId", GUID, 0, 0, true}, {"BoardIdCreatedBy", TEXT, 0, 80, true},
+     {"FailedBoard", INT, 0, 2, false}, {"ProductTypeId", TEXT, 0, 254, true}, {"FlippedBoard", INT, 0, 2, false}, {"TopBarcode", TEXT, 0, 254, true},
+     {"BottomBarcode", TEXT, 0, 254, true}, {"Length", POSITIVE, 0, 0, true}, {"Width", POSITIVE, 0, 0, true}, {"Thickness", POSITIVE, 0, 0, true},
+     {"ConveyorSpeed", POSITIVE, 0, 0, true}, {"TopClearanceHeight", POSITIVE, 0, 0, true}, {"BottomClearanceHeight", POSITIVE, 0, 0, true},
+     {"Weight", POSITIVE, 0, 0, true}, {"WorkOrderId", TEXT, 0, 80, true}},
 };
 
 struct Value {
@@ -50,11 +55,11 @@ struct Value {
 struct Message {
     int kind, refusal;
     bool features, forecast, query, send;
-    Value values[15];  // in the order of the kind's rows
+    Value values[17];  // in the order of the kind's rows
 };
 
 inline int kind_of(const char *name) {
-    for (int k = 1; k <= 10; k++)
+    for (int k = 1; k <= 11; k++)
         if (strcmp(KINDS[k], name) == 0) return k;
     return 0;
 }
@@ -118,6 +123,8 @@ inline void take_feature(Message &m, const char *name) {
 struct Lane {
     int side, state;
     char offered[36], running[36];
+    size_t forecast_length;
+    char forecast[80];
 };
 
 struct Answer {
@@ -138,6 +145,7 @@ inline int chart(int state, int kind, int sender, bool received, bool same) {
         case 7: return !down ? -1 : (state == 5 && (received || same)) || (state == 4 && received) ? 6 : -1;
         case 8: return !down || !same ? -1 : state == 6 ? 7 : state == 8 ? 2 : -1;
         case 9: return !up || !same ? -1 : state == 6 ? 8 : state == 7 ? 2 : -1;
+        case 11: return up && (state == 2 || state == 4 || (received && (state == 6 || state == 7))) ? state : -1;
         default: return state;
     }
 }
@@ -145,6 +153,19 @@ inline int chart(int state, int kind, int sender, bool received, bool same) {
 inline const char *id_of(const Message &m) {
     static const char none[36] = {0};
     return m.kind == 3 || m.kind == 7 ? m.values[0].text : m.kind == 8 || m.kind == 9 ? m.values[1].text : none;
+}
+
+inline void keep_forecast(Lane &l, const char *s, size_t n) {
+    memset(l.forecast, 0, sizeof l.forecast);
+    memcpy(l.forecast, s, n);
+    l.forecast_length = n;
+}
+
+// The last ForecastId received is kept, until a MachineReady has the same one.
+inline void take_forecast(Lane &l, const Message &m, bool received) {
+    const Value &v = m.values[m.kind == 5 ? 1 : 0];
+    if (m.kind == 11 && received && v.there) keep_forecast(l, v.text, v.length);
+    if (m.kind == 5 && v.there && v.length == l.forecast_length && memcmp(v.text, l.forecast, v.length) == 0) keep_forecast(l, "", 0);
 }
 
 // Moves the lane; -1 where there is no transition.
@@ -163,6 +184,7 @@ inline int move(Lane &l, const Message &m, bool received) {
     else if (m.kind == 7)
         memcpy(l.running, id, 36);
     l.state = next;
+    take_forecast(l, m, received);
     return order;
 }
 
@@ -265,6 +287,7 @@ inline Answer received(Lane &l, Message &m, char *out, size_t room) {
         l.state = 0;
         memset(l.offered, 0, 36);
         memset(l.running, 0, 36);
+        keep_forecast(l, "", 0);
         return notify(m.refusal ? m.refusal : 9, order, out, room);
     }
     if (m.kind != 10 || !m.values[0].there || m.values[0].number != 1) return {0, moved, 0};

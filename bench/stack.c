@@ -77,13 +77,14 @@ static void input(int which) {
         case 8: element("<?xml version='1.0' encoding='utf-8'?><Hermes><a", 1, " a='' b='' c='' d='' e='' f='' g='' h='' i='' j='' k='' l='' m='' n=''",
                         " o='' p='' q='' r='' s='' t='' u='' v='' w='' x='' y='' z='' A='' B='' C='' D='' E='' F=''/></Hermes>"); break;
         case 9: element("<Hermes><a b='", 65600, "v", ""); break;
+        case 10: element("<Hermes><BoardForecast ForecastId='", 80, "&quot;", "' FailedBoard='0' FlippedBoard='0' Width='0160.50'/></Hermes>"); break;
         default: element("", ROOM - 10, " ", ""); break;
     }
 }
 
 static void most(const char *name, void (*call)(void), size_t idle) {
     size_t bytes = 0;
-    for (int which = 0; which <= 10; which++) {
+    for (int which = 0; which <= 11; which++) {
         input(which);
         for (int state = 0; state <= TRYPHOMEL_FINISHED; state++) {
             memset(&lane, 0, sizeof lane);
@@ -114,14 +115,19 @@ static void longest(int kind) {
             message.as.board.by = message.as.board.order = part;
             message.as.board.product = message.as.board.top = message.as.board.bottom = whole;
             break;
+        case TRYPHOMEL_MACHINE_READY: message.as.ready.forecast = part; break;
         case TRYPHOMEL_CHECK_ALIVE: message.as.alive.id = part; break;
+        case TRYPHOMEL_BOARD_FORECAST:
+            message.as.forecast.forecast = message.as.forecast.by = message.as.forecast.order = part;
+            message.as.forecast.product = message.as.forecast.top = message.as.forecast.bottom = whole;
+            break;
     }
 }
 
 static void most_sent(size_t idle) {
     size_t bytes = 0;
     element("", TRYPHOMEL_LONG_TEXT, "\"", "1.6");
-    for (int kind = 0; kind <= TRYPHOMEL_CHECK_ALIVE; kind++)
+    for (int kind = 0; kind <= TRYPHOMEL_BOARD_FORECAST; kind++)
         for (int side = TRYPHOMEL_UPSTREAM; side <= TRYPHOMEL_DOWNSTREAM; side++)
             for (int state = 0; state <= TRYPHOMEL_FINISHED; state++) {
                 longest(kind);

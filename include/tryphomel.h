@@ -51,7 +51,8 @@ enum {
     TRYPHOMEL_START_TRANSPORT = 7,
     TRYPHOMEL_STOP_TRANSPORT = 8,
     TRYPHOMEL_TRANSPORT_FINISHED = 9,
-    TRYPHOMEL_CHECK_ALIVE = 10
+    TRYPHOMEL_CHECK_ALIVE = 10,
+    TRYPHOMEL_BOARD_FORECAST = 11
 };
 
 /* Belt orders. */
@@ -109,13 +110,14 @@ enum {
     TRYPHOMEL_LONG_TEXT = 254
 };
 
-/* Sizes: a BoardId's bytes, a message's cells and its numbers, and the room that receiving and sending can want at most. */
+/* Sizes: the bytes of a BoardId and of the longest ForecastId, a message's cells and its numbers, and the room that receiving and sending can want at most. */
 enum {
     TRYPHOMEL_ID_BYTES = 36,
+    TRYPHOMEL_FORECAST_BYTES = 80,
     TRYPHOMEL_CELLS = 24,
     TRYPHOMEL_NUMBERS = 73,
     TRYPHOMEL_RECEIVE_ROOM = 525,
-    TRYPHOMEL_SEND_ROOM = 5933
+    TRYPHOMEL_SEND_ROOM = 6462
 };
 
 /* A message is its kind, and a cell of three numbers for each attribute of its kind, in the order of the standard's table. A cell says first
@@ -165,6 +167,7 @@ typedef struct {
         } board;
         struct { /* MachineReady */
             tryphomel_number failed;
+            tryphomel_words forecast; /* ForecastId */
         } ready;
         struct { /* StartTransport */
             tryphomel_words id;
@@ -178,13 +181,25 @@ typedef struct {
             tryphomel_number ping; /* Type */
             tryphomel_words id;    /* Id, a text */
         } alive;
+        struct { /* BoardForecast */
+            tryphomel_words forecast; /* ForecastId */
+            tryphomel_number until;   /* TimeUntilAvailable, in millionths of a second */
+            tryphomel_words id, by;
+            tryphomel_number failed;
+            tryphomel_words product;
+            tryphomel_number flipped;
+            tryphomel_words top, bottom;
+            tryphomel_number length, width, thickness, speed, above, below, weight;
+            tryphomel_words order;
+        } forecast;
     } as;
     uint8_t id[TRYPHOMEL_ID_BYTES]; /* the BoardId; zeros in a received message that has none */
 } tryphomel_message;
 
-/* A lane: keep it between the calls, and change it by the calls only. */
+/* A lane: keep it between the calls, and change it by the calls only. `forecast` has the last ForecastId received in a BoardForecast, `forecast_length`
+ * bytes and zeros behind them; a length of 0 if there is none. A MachineReady with the same id clears it, and so does the end of the connection. */
 typedef struct {
-    uint8_t side, state, offered[TRYPHOMEL_ID_BYTES], running[TRYPHOMEL_ID_BYTES];
+    uint8_t side, state, offered[TRYPHOMEL_ID_BYTES], running[TRYPHOMEL_ID_BYTES], forecast_length, forecast[TRYPHOMEL_FORECAST_BYTES];
 } tryphomel_lane;
 
 /* What a check answers: a message from `start` to `end`, or the malformed byte at `place`. */
@@ -221,18 +236,23 @@ uint8_t tryphomel_text(const uint8_t *bytes, size_t size, uint8_t there, uint64_
                        uint64_t *at, uint64_t *count);
 
 /* A new lane of a side, and a lane after its connection was lost. */
-void tryphomel_upstream(uint8_t *side, uint8_t *state, uint8_t offered[TRYPHOMEL_ID_BYTES], uint8_t running[TRYPHOMEL_ID_BYTES]);
-void tryphomel_downstream(uint8_t *side, uint8_t *state, uint8_t offered[TRYPHOMEL_ID_BYTES], uint8_t running[TRYPHOMEL_ID_BYTES]);
-void tryphomel_lost(uint8_t side, uint8_t *state, uint8_t offered[TRYPHOMEL_ID_BYTES], uint8_t running[TRYPHOMEL_ID_BYTES]);
+void tryphomel_upstream(uint8_t *side, uint8_t *state, uint8_t offered[TRYPHOMEL_ID_BYTES], uint8_t running[TRYPHOMEL_ID_BYTES],
+    uint8_t *forecast_length, uint8_t forecast[TRYPHOMEL_FORECAST_BYTES]);
+void tryphomel_downstream(uint8_t *side, uint8_t *state, uint8_t offered[TRYPHOMEL_ID_BYTES], uint8_t running[TRYPHOMEL_ID_BYTES],
+    uint8_t *forecast_length, uint8_t forecast[TRYPHOMEL_FORECAST_BYTES]);
+void tryphomel_lost(uint8_t side, uint8_t *state, uint8_t offered[TRYPHOMEL_ID_BYTES], uint8_t running[TRYPHOMEL_ID_BYTES],
+    uint8_t *forecast_length, uint8_t forecast[TRYPHOMEL_FORECAST_BYTES]);
 
 /* Receives the message behind the blanks in front of the bytes. The Notification of a refusal or the reply to a CheckAlive stands first in
  * `out`; the rest of it is kept. */
 uint8_t tryphomel_receive(uint8_t side, uint8_t *state, uint8_t offered[TRYPHOMEL_ID_BYTES], uint8_t running[TRYPHOMEL_ID_BYTES],
+                          uint8_t *forecast_length, uint8_t forecast[TRYPHOMEL_FORECAST_BYTES],
                           const uint8_t *bytes, size_t size, uint8_t *out, size_t room, uint64_t numbers[TRYPHOMEL_NUMBERS],
                           uint8_t id[TRYPHOMEL_ID_BYTES], uint8_t *order, uint64_t *used, uint64_t *written, uint64_t *place);
 
 /* Writes a message first into `out`, if the lane may send it. A kind above 255 counts as 255, and may not be sent. */
 uint8_t tryphomel_send(uint8_t side, uint8_t *state, uint8_t offered[TRYPHOMEL_ID_BYTES], uint8_t running[TRYPHOMEL_ID_BYTES],
+                       uint8_t *forecast_length, uint8_t forecast[TRYPHOMEL_FORECAST_BYTES],
                        const uint64_t numbers[TRYPHOMEL_NUMBERS], const uint8_t id[TRYPHOMEL_ID_BYTES], const uint8_t *texts, size_t size, uint8_t *out,
                        size_t room, uint8_t *order, uint64_t *written);
 
@@ -242,21 +262,27 @@ uint8_t tryphomel_send(uint8_t side, uint8_t *state, uint8_t offered[TRYPHOMEL_I
 
 /* The same over the structs. */
 
-static inline void tryphomel_lane_upstream(tryphomel_lane *lane) { tryphomel_upstream(&lane->side, &lane->state, lane->offered, lane->running); }
+static inline void tryphomel_lane_upstream(tryphomel_lane *lane) {
+    tryphomel_upstream(&lane->side, &lane->state, lane->offered, lane->running, &lane->forecast_length, lane->forecast);
+}
 
-static inline void tryphomel_lane_downstream(tryphomel_lane *lane) { tryphomel_downstream(&lane->side, &lane->state, lane->offered, lane->running); }
+static inline void tryphomel_lane_downstream(tryphomel_lane *lane) {
+    tryphomel_downstream(&lane->side, &lane->state, lane->offered, lane->running, &lane->forecast_length, lane->forecast);
+}
 
-static inline void tryphomel_lane_lost(tryphomel_lane *lane) { tryphomel_lost(lane->side, &lane->state, lane->offered, lane->running); }
+static inline void tryphomel_lane_lost(tryphomel_lane *lane) {
+    tryphomel_lost(lane->side, &lane->state, lane->offered, lane->running, &lane->forecast_length, lane->forecast);
+}
 
 static inline uint8_t tryphomel_lane_receive(tryphomel_lane *lane, const void *bytes, size_t size, void *out, size_t room, tryphomel_received *to) {
-    return to->refusal = tryphomel_receive(lane->side, &lane->state, lane->offered, lane->running, (const uint8_t *)bytes, size, (uint8_t *)out, room,
-                                           (uint64_t *)&to->message, to->message.id, &to->order, &to->used, &to->written, &to->place);
+    return to->refusal = tryphomel_receive(lane->side, &lane->state, lane->offered, lane->running, &lane->forecast_length, lane->forecast,
+                                           (const uint8_t *)bytes, size, (uint8_t *)out, room, (uint64_t *)&to->message, to->message.id, &to->order, &to->used, &to->written, &to->place);
 }
 
 static inline uint8_t tryphomel_lane_send(tryphomel_lane *lane, const tryphomel_message *message, const void *texts, size_t size, void *out, size_t room,
                                           tryphomel_sent *to) {
-    return to->refusal = tryphomel_send(lane->side, &lane->state, lane->offered, lane->running, (const uint64_t *)message, message->id,
-                                        (const uint8_t *)texts, size, (uint8_t *)out, room, &to->order, &to->written);
+    return to->refusal = tryphomel_send(lane->side, &lane->state, lane->offered, lane->running, &lane->forecast_length, lane->forecast,
+                                        (const uint64_t *)message, message->id, (const uint8_t *)texts, size, (uint8_t *)out, room, &to->order, &to->written);
 }
 
 static inline uint8_t tryphomel_message_check(const void *bytes, size_t size, tryphomel_checked *to) {
@@ -312,6 +338,7 @@ static inline size_t tryphomel_id_cell(uint64_t kind) {
         case TRYPHOMEL_START_TRANSPORT: return 0;
         case TRYPHOMEL_STOP_TRANSPORT:
         case TRYPHOMEL_TRANSPORT_FINISHED: return 1;
+        case TRYPHOMEL_BOARD_FORECAST: return 2;
         default: return TRYPHOMEL_CELLS;
     }
 }

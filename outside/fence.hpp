@@ -55,14 +55,16 @@ struct Dials {
     size_t room;
     uint8_t side, state, ids;
     size_t out;
+    uint8_t forecast;
 };
 
 inline Dials take_dials(const uint8_t *data, size_t &size) {
-    uint8_t d[14] = {0};
+    uint8_t d[15] = {0};
     size_t n = std::min(size, sizeof d);
     size -= n;
     memcpy(d, data + size, n);
-    Dials x{d[0], d[1], d[2], (uint64_t)(d[3] | d[4] << 8), (uint64_t)(d[5] | d[6] << 8), (size_t)(d[7] | d[8] << 8), d[9], d[10], d[11], (size_t)(d[12] | d[13] << 8) % 8192};
+    Dials x{d[0],  d[1],  d[2], (uint64_t)(d[3] | d[4] << 8), (uint64_t)(d[5] | d[6] << 8), (size_t)(d[7] | d[8] << 8), d[9],
+            d[10], d[11], (size_t)(d[12] | d[13] << 8) % 8192, d[14]};
     if (x.flags & 1) x.start = UINT64_MAX - x.start;
     if (x.flags & 2) x.length = UINT64_MAX - x.length;
     if (x.flags & 4) x.room %= 8;

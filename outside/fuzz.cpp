@@ -19,13 +19,14 @@ Read on_read(const uint8_t *bytes, size_t n) {
 
 // What is absent is zero, and so is what stands behind the rows of the kind.
 void on_cells(const tryphomel_message &m, unsigned refusal) {
-    static const size_t rows[] = {0, 4, 3, 15, 0, 1, 0, 2, 2, 2, 2};
+    static const size_t rows[] = {0, 4, 3, 15, 0, 2, 0, 2, 2, 2, 2, 17};
     for (size_t i = 0; i < TRYPHOMEL_CELLS; i++) {
         const tryphomel_words &c = m.as.cells[i];
         expect(c.there ? c.there == 1 && refusal == 0 && i < rows[m.kind] : c.start == 0 && c.len == 0, "the cells of an accepted message's rows alone");
     }
     expect(tryphomel_has_id(&m) || std::all_of(m.id, m.id + sizeof m.id, [](uint8_t b) { return b == 0; }), "an id that is there");
     if (m.kind == TRYPHOMEL_BOARD_AVAILABLE) expect(m.as.board.length.value <= 9999999999999 && m.as.board.failed.value <= 2, "values in their ranges");
+    if (m.kind == TRYPHOMEL_BOARD_FORECAST) expect(m.as.forecast.until.value <= 9999999999999 && m.as.forecast.failed.value <= 2, "values in their ranges");
 }
 
 void on_check(const uint8_t *bytes, size_t n, const Read &r) {
@@ -33,7 +34,7 @@ void on_check(const uint8_t *bytes, size_t n, const Read &r) {
     memset(&c, 9, sizeof c);
     unsigned refusal = tryphomel_message_check(bytes, n, &c);
     uint64_t end = c.end, kind = c.message.kind;
-    bool fits = r.answer ? refusal == r.answer && end == 0 && kind == 0 : end == r.place && kind <= 10;
+    bool fits = r.answer ? refusal == r.answer && end == 0 && kind == 0 : end == r.place && kind <= TRYPHOMEL_BOARD_FORECAST;
     expect(c.start == r.start && c.place == (r.answer == 2 ? r.place : 0), "the check says where, as the reader does");
     expect(fits, "the check says what the reader says");
     expect(r.answer || refusal == 0 || refusal == 4 || refusal == 5 || refusal == 6, "a refusal of a message");

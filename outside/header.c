@@ -9,9 +9,10 @@
 #define AT(member, index) (offsetof(tryphomel_message, member) == 8 * (index))
 #define CELL(member, row) AT(as.member, 1 + 3 * (row))
 
-FITS(lane_size, sizeof(tryphomel_lane) == 74);
+FITS(lane_size, sizeof(tryphomel_lane) == 155);
 FITS(lane_places, offsetof(tryphomel_lane, side) == 0 && offsetof(tryphomel_lane, state) == 1 && offsetof(tryphomel_lane, offered) == 2 &&
-                      offsetof(tryphomel_lane, running) == 38);
+                      offsetof(tryphomel_lane, running) == 38 && offsetof(tryphomel_lane, forecast_length) == 74 && offsetof(tryphomel_lane, forecast) == 75);
+FITS(forecast_size, TRYPHOMEL_FORECAST_BYTES == 80 && TRYPHOMEL_SHORT_TEXT == 80);
 FITS(cells, sizeof(tryphomel_words) == 24 && sizeof(tryphomel_number) == 24 && sizeof(tryphomel_features) == 24);
 FITS(words, offsetof(tryphomel_words, there) == 0 && offsetof(tryphomel_words, start) == 8 && offsetof(tryphomel_words, len) == 16);
 FITS(number, offsetof(tryphomel_number, there) == 0 && offsetof(tryphomel_number, value) == 8 && offsetof(tryphomel_number, spare) == 16);
@@ -23,10 +24,14 @@ FITS(board, CELL(board.id, 0) && CELL(board.by, 1) && CELL(board.failed, 2) && C
                 CELL(board.bottom, 6) && CELL(board.order, 14));
 FITS(measures, CELL(board.length, 7) && CELL(board.width, 8) && CELL(board.thickness, 9) && CELL(board.speed, 10) && CELL(board.above, 11) &&
                    CELL(board.below, 12) && CELL(board.weight, 13));
-FITS(ready, CELL(ready.failed, 0));
+FITS(ready, CELL(ready.failed, 0) && CELL(ready.forecast, 1));
 FITS(transport, CELL(transport.id, 0) && CELL(transport.speed, 1));
 FITS(transfer, CELL(transfer.state, 0) && CELL(transfer.id, 1));
 FITS(alive, CELL(alive.ping, 0) && CELL(alive.id, 1));
+FITS(forecast, CELL(forecast.forecast, 0) && CELL(forecast.until, 1) && CELL(forecast.id, 2) && CELL(forecast.by, 3) && CELL(forecast.failed, 4) &&
+                   CELL(forecast.product, 5) && CELL(forecast.flipped, 6) && CELL(forecast.top, 7) && CELL(forecast.bottom, 8) && CELL(forecast.order, 16));
+FITS(forecast_measures, CELL(forecast.length, 9) && CELL(forecast.width, 10) && CELL(forecast.thickness, 11) && CELL(forecast.speed, 12) &&
+                            CELL(forecast.above, 13) && CELL(forecast.below, 14) && CELL(forecast.weight, 15));
 FITS(id, AT(id, TRYPHOMEL_NUMBERS) && sizeof(((tryphomel_message *)0)->as) == 576 && sizeof(((tryphomel_message *)0)->id) == TRYPHOMEL_ID_BYTES);
 
 static int passed, failed;
@@ -44,7 +49,7 @@ static void check_at(int line, const char *what, int fact) {
 static const uint8_t ID[] = "0123abcd-4567-89ef-0123-456789abcdef";
 static const char OTHER[] = "99999999-4567-89ef-0123-456789abcdef";
 static char buffer[70000], texts[70000];
-static uint8_t out[6000];
+static uint8_t out[7000];
 
 /* A text of the message to be sent: it is put behind the others. */
 static tryphomel_words put(const char *text) {
@@ -63,9 +68,23 @@ static tryphomel_lane lane_in(int side, int state) {
     return l;
 }
 
-static int zero(const uint8_t *id) {
-    static const uint8_t nothing[TRYPHOMEL_ID_BYTES] = {0};
-    return memcmp(id, nothing, sizeof nothing) == 0;
+static int zeros(const uint8_t *bytes, size_t n) {
+    while (n > 0 && bytes[n - 1] == 0) n--;
+    return n == 0;
+}
+static int zero(const uint8_t *id) { return zeros(id, TRYPHOMEL_ID_BYTES); }
+
+/* A lane with that ForecastId, and a length that need not be its own. */
+static void forecast_in(tryphomel_lane *l, int length, const char *id) {
+    memset(l->forecast, 0, sizeof l->forecast);
+    memcpy(l->forecast, id, strlen(id));
+    l->forecast_length = (uint8_t)length;
+}
+
+/* The lane has kept that ForecastId, and zeros behind it. */
+static int keeps(const tryphomel_lane *l, const char *id) {
+    size_t n = strlen(id);
+    return l->forecast_length == n && memcmp(l->forecast, id, n) == 0 && zeros(l->forecast + n, sizeof l->forecast - n);
 }
 
 /* Sends a message from a lane in a state, and holds the bytes to what is expected; then checks them, and hands out what was found. */
@@ -170,8 +189,53 @@ static void boards(void) {
     m.as.ready.failed = tryphomel_is(2);
     c = there_and_back(__LINE__, TRYPHOMEL_DOWNSTREAM, TRYPHOMEL_OFFERED, m, "<Hermes><MachineReady FailedBoard=\"2\"/></Hermes>", TRYPHOMEL_BOTH);
     CHECK(is_number(c.message.as.ready.failed, 2) && none_from(&c.message, 1) && no_board(&c.message));
+    m.as.ready.forecast = put("F 7");
+    c = there_and_back(__LINE__, TRYPHOMEL_DOWNSTREAM, TRYPHOMEL_IDLE, m, "<Hermes><MachineReady FailedBoard=\"2\" ForecastId=\"F 7\"/></Hermes>",
+                       TRYPHOMEL_READY);
+    CHECK(is_number(c.message.as.ready.failed, 2) && is_text(c.message.as.ready.forecast, "F 7") && none_from(&c.message, 2) && no_board(&c.message));
     there_and_back(__LINE__, TRYPHOMEL_DOWNSTREAM, TRYPHOMEL_READY, tryphomel_blank(TRYPHOMEL_REVOKE_MACHINE_READY), "<Hermes><RevokeMachineReady/></Hermes>",
                    TRYPHOMEL_IDLE);
+}
+
+static void forecasts(void) {
+    tryphomel_message m = tryphomel_blank(TRYPHOMEL_BOARD_FORECAST);
+    tryphomel_checked c;
+    m.as.forecast.failed = tryphomel_is(0);
+    m.as.forecast.flipped = tryphomel_is(1);
+    c = there_and_back(__LINE__, TRYPHOMEL_UPSTREAM, TRYPHOMEL_READY, m, "<Hermes><BoardForecast FailedBoard=\"0\" FlippedBoard=\"1\"/></Hermes>",
+                       TRYPHOMEL_READY);
+    CHECK(is_number(c.message.as.forecast.failed, 0) && is_number(c.message.as.forecast.flipped, 1) && no_board(&c.message));
+    CHECK(!c.message.as.forecast.forecast.there && !c.message.as.forecast.until.there && !c.message.as.forecast.id.there && none_from(&c.message, 7));
+    m.as.forecast.forecast = put("F 7");
+    m.as.forecast.until = tryphomel_is(12500000);
+    tryphomel_name_board(&m, ID);
+    m.as.forecast.by = put("Loader");
+    m.as.forecast.failed = tryphomel_is(1);
+    m.as.forecast.product = put("type 5");
+    m.as.forecast.flipped = tryphomel_is(2);
+    m.as.forecast.top = put("T-77");
+    m.as.forecast.bottom = put("B-88");
+    m.as.forecast.length = tryphomel_is(160500000);
+    m.as.forecast.width = tryphomel_is(2000000);
+    m.as.forecast.thickness = tryphomel_is(1600000);
+    m.as.forecast.speed = tryphomel_is(4000000);
+    m.as.forecast.above = tryphomel_is(25000001);
+    m.as.forecast.below = tryphomel_is(6000000);
+    m.as.forecast.weight = tryphomel_is(500000);
+    m.as.forecast.order = put("WO 9");
+    c = there_and_back(__LINE__, TRYPHOMEL_UPSTREAM, TRYPHOMEL_IDLE, m,
+                       "<Hermes><BoardForecast ForecastId=\"F 7\" TimeUntilAvailable=\"12.5\" BoardId=\"0123abcd-4567-89ef-0123-456789abcdef\""
+                       " BoardIdCreatedBy=\"Loader\" FailedBoard=\"1\" ProductTypeId=\"type 5\" FlippedBoard=\"2\" TopBarcode=\"T-77\" BottomBarcode=\"B-88\""
+                       " Length=\"160.5\" Width=\"2\" Thickness=\"1.6\" ConveyorSpeed=\"4\" TopClearanceHeight=\"25.000001\" BottomClearanceHeight=\"6\""
+                       " Weight=\"0.5\" WorkOrderId=\"WO 9\"/></Hermes>",
+                       TRYPHOMEL_IDLE);
+    CHECK(is_board(&c.message, c.message.as.forecast.id) && none_from(&c.message, 17));
+    CHECK(is_text(c.message.as.forecast.forecast, "F 7") && is_number(c.message.as.forecast.until, 12500000) && is_text(c.message.as.forecast.by, "Loader"));
+    CHECK(is_number(c.message.as.forecast.failed, 1) && is_text(c.message.as.forecast.product, "type 5") && is_number(c.message.as.forecast.flipped, 2));
+    CHECK(is_text(c.message.as.forecast.top, "T-77") && is_text(c.message.as.forecast.bottom, "B-88") && is_number(c.message.as.forecast.length, 160500000));
+    CHECK(is_number(c.message.as.forecast.width, 2000000) && is_number(c.message.as.forecast.thickness, 1600000));
+    CHECK(is_number(c.message.as.forecast.speed, 4000000) && is_number(c.message.as.forecast.above, 25000001));
+    CHECK(is_number(c.message.as.forecast.below, 6000000) && is_number(c.message.as.forecast.weight, 500000) && is_text(c.message.as.forecast.order, "WO 9"));
 }
 
 static void transports(void) {
@@ -249,8 +313,8 @@ static void handover(void) {
     memset(&down, 0xa5, sizeof down);
     tryphomel_lane_upstream(&up);
     tryphomel_lane_downstream(&down);
-    CHECK(up.side == TRYPHOMEL_UPSTREAM && up.state == TRYPHOMEL_NOT_CONNECTED && zero(up.offered) && zero(up.running));
-    CHECK(down.side == TRYPHOMEL_DOWNSTREAM && down.state == TRYPHOMEL_NOT_CONNECTED && zero(down.offered) && zero(down.running));
+    CHECK(up.side == TRYPHOMEL_UPSTREAM && up.state == TRYPHOMEL_NOT_CONNECTED && zero(up.offered) && zero(up.running) && keeps(&up, ""));
+    CHECK(down.side == TRYPHOMEL_DOWNSTREAM && down.state == TRYPHOMEL_NOT_CONNECTED && zero(down.offered) && zero(down.running) && keeps(&down, ""));
     step(__LINE__, &down, &up, description(), TRYPHOMEL_DESCRIBED_DOWN, TRYPHOMEL_ORDER_NONE, TRYPHOMEL_ORDER_NONE);
     step(__LINE__, &up, &down, description(), TRYPHOMEL_IDLE, TRYPHOMEL_ORDER_NONE, TRYPHOMEL_ORDER_NONE);
     step(__LINE__, &up, &down, offer(), TRYPHOMEL_OFFERED, TRYPHOMEL_ORDER_NONE, TRYPHOMEL_ORDER_NONE);
@@ -263,8 +327,57 @@ static void handover(void) {
     CHECK(zero(up.offered) && zero(up.running));
     step(__LINE__, &down, &up, ready, TRYPHOMEL_READY, TRYPHOMEL_ORDER_NONE, TRYPHOMEL_ORDER_NONE);
     up = lane_in(TRYPHOMEL_UPSTREAM, TRYPHOMEL_TRANSPORTING);
+    forecast_in(&up, 80, "F 7");
     tryphomel_lane_lost(&up);
-    CHECK(up.side == TRYPHOMEL_UPSTREAM && up.state == TRYPHOMEL_NOT_CONNECTED && zero(up.offered) && zero(up.running));
+    CHECK(up.side == TRYPHOMEL_UPSTREAM && up.state == TRYPHOMEL_NOT_CONNECTED && zero(up.offered) && zero(up.running) && keeps(&up, ""));
+}
+
+/* A BoardForecast and a MachineReady with that ForecastId, or with none. */
+static tryphomel_message forecast(const char *id) {
+    tryphomel_message m = tryphomel_blank(TRYPHOMEL_BOARD_FORECAST);
+    m.as.forecast.failed = tryphomel_is(0);
+    m.as.forecast.flipped = tryphomel_is(0);
+    if (id != NULL) m.as.forecast.forecast = put(id);
+    return m;
+}
+
+static tryphomel_message ready_for(const char *id) {
+    tryphomel_message m = tryphomel_blank(TRYPHOMEL_MACHINE_READY);
+    m.as.ready.failed = tryphomel_is(0);
+    if (id != NULL) m.as.ready.forecast = put(id);
+    return m;
+}
+
+/* The last ForecastId received is kept until a MachineReady has the same one. */
+static void changeover(void) {
+    const int none = TRYPHOMEL_ORDER_NONE;
+    tryphomel_lane up = lane_in(TRYPHOMEL_UPSTREAM, TRYPHOMEL_IDLE), down = lane_in(TRYPHOMEL_DOWNSTREAM, TRYPHOMEL_IDLE);
+    tryphomel_message back = tryphomel_blank(TRYPHOMEL_REVOKE_MACHINE_READY);
+    step(__LINE__, &up, &down, forecast("R&D 7"), TRYPHOMEL_IDLE, none, none);
+    CHECK(keeps(&up, "") && keeps(&down, "R&D 7"));
+    step(__LINE__, &up, &down, forecast(NULL), TRYPHOMEL_IDLE, none, none);
+    CHECK(keeps(&down, "R&D 7"));
+    step(__LINE__, &down, &up, ready_for(NULL), TRYPHOMEL_READY, none, none);
+    CHECK(keeps(&down, "R&D 7"));
+    step(__LINE__, &up, &down, forecast("F 8"), TRYPHOMEL_READY, none, none);
+    CHECK(keeps(&up, "") && keeps(&down, "F 8"));
+    step(__LINE__, &down, &up, back, TRYPHOMEL_IDLE, none, none);
+    step(__LINE__, &down, &up, ready_for("R&D 7"), TRYPHOMEL_READY, none, none);
+    CHECK(keeps(&down, "F 8"));
+    step(__LINE__, &down, &up, back, TRYPHOMEL_IDLE, none, none);
+    step(__LINE__, &up, &down, offer(), TRYPHOMEL_OFFERED, none, none);
+    forecast_in(&up, 3, "F 8");
+    step(__LINE__, &down, &up, ready_for("F 8"), TRYPHOMEL_BOTH, none, none);
+    CHECK(keeps(&up, "") && keeps(&down, ""));
+    step(__LINE__, &up, &down, tryphomel_blank(TRYPHOMEL_REVOKE_BOARD_AVAILABLE), TRYPHOMEL_READY, none, none);
+    step(__LINE__, &up, &down, forecast("F 9"), TRYPHOMEL_READY, none, none);
+    step(__LINE__, &up, &down, forecast(""), TRYPHOMEL_READY, none, none);
+    CHECK(keeps(&up, "") && keeps(&down, ""));
+    forecast_in(&up, 3, "F 9");
+    step(__LINE__, &up, &down, forecast("F 9"), TRYPHOMEL_READY, none, none);
+    CHECK(keeps(&up, "F 9") && keeps(&down, "F 9"));
+    tryphomel_lane_lost(&down);
+    CHECK(keeps(&down, ""));
 }
 
 /* What is received in a state: refusal, order and next state. */
@@ -311,6 +424,63 @@ static void refusals(void) {
     CHECK(r.written == 46 && memcmp(out, "<Hermes><CheckAlive Type=\"2\" Id=\"7\"/></Hermes>", 46) == 0);
     CHECK(is_number(r.message.as.alive.ping, TRYPHOMEL_PING));
     CHECK(tryphomel_message_check(out, r.written, &c) == TRYPHOMEL_ACCEPTED && is_number(c.message.as.alive.ping, TRYPHOMEL_PONG));
+}
+
+/* A lane whose kept ForecastId has that length, and bytes behind it. */
+static tryphomel_lane rubbish(int state, int length) {
+    tryphomel_lane l = lane_in(TRYPHOMEL_DOWNSTREAM, state);
+    memset(l.forecast, 'f', sizeof l.forecast);
+    l.forecast_length = (uint8_t)length;
+    return l;
+}
+
+/* Where a forecast is taken and where it may be sent; the state, the ids and the belt stay. */
+static void forecast_states(void) {
+    static const char f[] = "<Hermes><BoardForecast ForecastId='a&amp;b' FailedBoard='0' FlippedBoard='0'/></Hermes>";
+    for (int state = TRYPHOMEL_NOT_CONNECTED; state <= TRYPHOMEL_FINISHED; state++) {
+        int sent = state == TRYPHOMEL_IDLE || state == TRYPHOMEL_READY, under_way = state >= TRYPHOMEL_TRANSPORTING;
+        int taken = sent || state == TRYPHOMEL_TRANSPORTING || state == TRYPHOMEL_STOPPED;
+        for (int side = TRYPHOMEL_UPSTREAM; side <= TRYPHOMEL_DOWNSTREAM; side++) {
+            tryphomel_lane l = lane_in(side, state), before;
+            tryphomel_message m = forecast("a&b");
+            tryphomel_received r;
+            tryphomel_sent s;
+            int takes = side == TRYPHOMEL_DOWNSTREAM && taken, sends = side == TRYPHOMEL_UPSTREAM && sent;
+            forecast_in(&l, 3, "old");
+            before = l;
+            CHECK(tryphomel_lane_send(&l, &m, texts, strlen(texts), out, sizeof out, &s) == (sends ? TRYPHOMEL_ACCEPTED : TRYPHOMEL_MAY_NOT_BE_SENT));
+            CHECK(s.order == TRYPHOMEL_ORDER_NONE && l.state == state && keeps(&l, "old") && (sends || memcmp(&l, &before, sizeof l) == 0));
+            texts[0] = 0;
+            l = before;
+            CHECK(tryphomel_lane_receive(&l, f, strlen(f), out, sizeof out, &r) == (takes ? TRYPHOMEL_ACCEPTED : TRYPHOMEL_PROTOCOL_ERROR));
+            CHECK(r.order == (takes || !under_way ? TRYPHOMEL_ORDER_NONE : TRYPHOMEL_ORDER_STOP_NOW) && r.used == strlen(f));
+            CHECK(l.state == (takes ? state : TRYPHOMEL_NOT_CONNECTED) && keeps(&l, takes ? "a&b" : ""));
+            CHECK(takes ? r.written == 0 && (under_way ? memcmp(l.running, ID, 36) == 0 : zero(l.running)) : notified(r, "invalid transition"));
+        }
+    }
+}
+
+/* What another program has made of the kept ForecastId is put right with an accepted message, and kept with a refusal. */
+static void impossible(void) {
+    static const char alive[] = "<Hermes><CheckAlive/></Hermes>", none[] = "<Hermes>";
+    static char all[TRYPHOMEL_FORECAST_BYTES + 1];
+    static const int lengths[] = {0, 1, 79, 80, 81, 255};
+    for (int state = TRYPHOMEL_NOT_CONNECTED; state <= TRYPHOMEL_FINISHED; state++)
+        for (size_t i = 0; i < sizeof lengths / sizeof lengths[0]; i++) {
+            const int length = lengths[i];
+            tryphomel_lane l = rubbish(state, length), before = l;
+            tryphomel_message m = tryphomel_blank(TRYPHOMEL_CHECK_ALIVE);
+            tryphomel_received r;
+            tryphomel_sent s;
+            int n = state < TRYPHOMEL_IDLE || length > TRYPHOMEL_FORECAST_BYTES ? 0 : length;
+            memset(all, 'f', (size_t)n);
+            all[n] = 0;
+            CHECK(tryphomel_lane_receive(&l, none, strlen(none), out, sizeof out, &r) == TRYPHOMEL_MORE_NEEDED && memcmp(&l, &before, sizeof l) == 0);
+            CHECK(tryphomel_lane_send(&l, &m, "", 0, out, 0, &s) == TRYPHOMEL_NO_ROOM && memcmp(&l, &before, sizeof l) == 0);
+            CHECK(tryphomel_lane_receive(&l, alive, strlen(alive), out, sizeof out, &r) == TRYPHOMEL_ACCEPTED && keeps(&l, all));
+            l = before;
+            CHECK(tryphomel_lane_send(&l, &m, "", 0, out, sizeof out, &s) == TRYPHOMEL_ACCEPTED && keeps(&l, all));
+        }
 }
 
 /* An offer whose texts are so long is refused by the lane so; for 0 with this refusal in a smaller buffer. */
@@ -369,6 +539,14 @@ static uint8_t checks(void) {
     return tryphomel_message_check(buffer, strlen(buffer), &c);
 }
 
+/* A ForecastId of so many bytes, the last one spelt as a reference. */
+static void forecast_named(const char *start, size_t n) {
+    char *p;
+    strcpy(buffer, start);
+    p = repeat(buffer + strlen(buffer), "f", n - 1);
+    strcpy(p, "&lt;' FailedBoard='0' FlippedBoard='0'/></Hermes>");
+}
+
 static void limits(void) {
     char *p;
     uint64_t start, place;
@@ -402,7 +580,31 @@ static void limits(void) {
         p = repeat(buffer + strlen(buffer), "d", TRYPHOMEL_LONG_TEXT + (size_t)more);
         strcpy(p, "\"/></Hermes>");
         CHECK(checks() == (more ? TRYPHOMEL_TEXT_TOO_LONG : TRYPHOMEL_ACCEPTED));
+        forecast_named("<Hermes><BoardForecast ForecastId='", TRYPHOMEL_FORECAST_BYTES + (size_t)more);
+        CHECK(checks() == (more ? TRYPHOMEL_TEXT_TOO_LONG : TRYPHOMEL_ACCEPTED));
+        forecast_named("<Hermes><MachineReady ForecastId='", TRYPHOMEL_FORECAST_BYTES + (size_t)more);
+        CHECK(checks() == (more ? TRYPHOMEL_TEXT_TOO_LONG : TRYPHOMEL_ACCEPTED));
     }
+}
+
+/* A ForecastId of 80 bytes is kept whole, and no longer one is sent. */
+static void longest_id(void) {
+    static char id[TRYPHOMEL_FORECAST_BYTES + 2];
+    tryphomel_lane up = lane_in(TRYPHOMEL_UPSTREAM, TRYPHOMEL_IDLE), down = lane_in(TRYPHOMEL_DOWNSTREAM, TRYPHOMEL_IDLE);
+    tryphomel_message m;
+    tryphomel_sent s;
+    repeat(id, "\"", TRYPHOMEL_FORECAST_BYTES);
+    step(__LINE__, &up, &down, forecast(id), TRYPHOMEL_IDLE, TRYPHOMEL_ORDER_NONE, TRYPHOMEL_ORDER_NONE);
+    CHECK(keeps(&down, id));
+    step(__LINE__, &down, &up, ready_for(id), TRYPHOMEL_READY, TRYPHOMEL_ORDER_NONE, TRYPHOMEL_ORDER_NONE);
+    CHECK(keeps(&down, ""));
+    repeat(id, "f", TRYPHOMEL_FORECAST_BYTES + 1);
+    m = forecast(id);
+    CHECK(tryphomel_lane_send(&up, &m, texts, strlen(texts), out, sizeof out, &s) == TRYPHOMEL_TEXT_TOO_LONG);
+    texts[0] = 0;
+    m = ready_for(id);
+    CHECK(tryphomel_lane_send(&down, &m, texts, strlen(texts), out, sizeof out, &s) == TRYPHOMEL_TEXT_TOO_LONG);
+    texts[0] = 0;
 }
 
 /* Where the texts of a CheckAlive are. */
@@ -432,12 +634,20 @@ static void where(void) {
     CHECK(tryphomel_words_text(id, m, strlen(m), scratch, 4, &text, &count) == TRYPHOMEL_BAD_VALUE && memcmp(scratch, "a&b#", 4) == 0);
 }
 
+/* A BoardAvailable of a forecast's board: its cells are those behind the first two. */
+static tryphomel_message as_board(const tryphomel_message *forecast) {
+    tryphomel_message m = *forecast;
+    m.kind = TRYPHOMEL_BOARD_AVAILABLE;
+    memcpy(m.as.cells, forecast->as.cells + 2, 15 * sizeof m.as.cells[0]);
+    return m;
+}
+
 /* The longest reply and the longest message fill the rooms that the header names, and want every byte of them. */
 static void rooms(void) {
     tryphomel_lane l = lane_in(TRYPHOMEL_UPSTREAM, TRYPHOMEL_IDLE);
     tryphomel_received r;
     tryphomel_sent s;
-    tryphomel_message m = offer();
+    tryphomel_message m = forecast(NULL);
     tryphomel_number most = tryphomel_is(9999999999999);
     char *p;
     strcpy(buffer, "<Hermes><CheckAlive Type=\"1\" Id=\"");
@@ -446,24 +656,30 @@ static void rooms(void) {
     CHECK(tryphomel_lane_receive(&l, buffer, strlen(buffer), out, TRYPHOMEL_RECEIVE_ROOM - 1, &r) == TRYPHOMEL_NO_ROOM && r.used == 0 && r.written == 0);
     CHECK(tryphomel_lane_receive(&l, buffer, strlen(buffer), out, TRYPHOMEL_RECEIVE_ROOM, &r) == TRYPHOMEL_ACCEPTED && r.written == TRYPHOMEL_RECEIVE_ROOM);
     repeat(texts, "\"", TRYPHOMEL_LONG_TEXT);
-    m.as.board.by = m.as.board.order = tryphomel_part(0, TRYPHOMEL_SHORT_TEXT);
-    m.as.board.product = m.as.board.top = m.as.board.bottom = tryphomel_part(0, TRYPHOMEL_LONG_TEXT);
-    m.as.board.length = m.as.board.width = m.as.board.thickness = m.as.board.speed = m.as.board.above = m.as.board.below = m.as.board.weight = most;
+    tryphomel_name_board(&m, ID);
+    m.as.forecast.forecast = m.as.forecast.by = m.as.forecast.order = tryphomel_part(0, TRYPHOMEL_SHORT_TEXT);
+    m.as.forecast.product = m.as.forecast.top = m.as.forecast.bottom = tryphomel_part(0, TRYPHOMEL_LONG_TEXT);
+    m.as.forecast.until = m.as.forecast.length = m.as.forecast.width = m.as.forecast.thickness = m.as.forecast.speed = most;
+    m.as.forecast.above = m.as.forecast.below = m.as.forecast.weight = most;
     CHECK(tryphomel_lane_send(&l, &m, texts, strlen(texts), out, TRYPHOMEL_SEND_ROOM - 1, &s) == TRYPHOMEL_NO_ROOM);
     CHECK(tryphomel_lane_send(&l, &m, texts, strlen(texts), out, TRYPHOMEL_SEND_ROOM, &s) == TRYPHOMEL_ACCEPTED && s.written == TRYPHOMEL_SEND_ROOM);
+    m = as_board(&m);
+    CHECK(tryphomel_lane_send(&l, &m, texts, strlen(texts), out, 5932, &s) == TRYPHOMEL_NO_ROOM);
+    CHECK(tryphomel_lane_send(&l, &m, texts, strlen(texts), out, 5933, &s) == TRYPHOMEL_ACCEPTED && s.written == 5933);
     texts[0] = 0;
 }
 
 /* Which kinds have a BoardId, and where; the others are kept. */
 static void names(void) {
-    for (uint64_t kind = 0; kind <= TRYPHOMEL_CHECK_ALIVE + 1; kind++) {
+    for (uint64_t kind = 0; kind <= TRYPHOMEL_BOARD_FORECAST + 1; kind++) {
         tryphomel_message m = tryphomel_blank(kind);
         int first = kind == TRYPHOMEL_BOARD_AVAILABLE || kind == TRYPHOMEL_START_TRANSPORT;
         int second = kind == TRYPHOMEL_STOP_TRANSPORT || kind == TRYPHOMEL_TRANSPORT_FINISHED;
+        int third = kind == TRYPHOMEL_BOARD_FORECAST, any = first || second || third;
         CHECK(m.kind == kind && none_from(&m, 0) && no_board(&m));
         tryphomel_name_board(&m, ID);
-        CHECK(m.kind == kind && none_from(&m, 2) && tryphomel_has_id(&m) == (first || second) && zero(m.id) == !(first || second));
-        CHECK(m.as.cells[0].there == (uint64_t)first && m.as.cells[1].there == (uint64_t)second);
+        CHECK(m.kind == kind && none_from(&m, 3) && tryphomel_has_id(&m) == any && zero(m.id) == !any);
+        CHECK(m.as.cells[0].there == (uint64_t)first && m.as.cells[1].there == (uint64_t)second && m.as.cells[2].there == (uint64_t)third);
     }
 }
 
@@ -471,11 +687,16 @@ int main(void) {
     names();
     descriptions();
     boards();
+    forecasts();
     transports();
     handover();
+    changeover();
     refusals();
+    forecast_states();
+    impossible();
     sending();
     limits();
+    longest_id();
     where();
     rooms();
     printf("%d passed, %d failed\n", passed, failed);

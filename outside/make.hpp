@@ -49,12 +49,19 @@ inline const std::vector<Row> &table() {
           {"ConveyorSpeed", 'p', true, 0, 0}, {"TopClearanceHeight", 'p', true, 0, 0}, {"BottomClearanceHeight", 'p', true, 0, 0},
           {"Weight", 'p', true, 0, 0}, {"WorkOrderId", 't', true, 0, 80}}},
         {"RevokeBoardAvailable", {}},
-        {"MachineReady", {{"FailedBoard", 'i', false, 0, 2}}},
+        {"MachineReady", {{"FailedBoard", 'i', false, 0, 2}, {"ForecastId", 't', true, 0, 80}}},
         {"RevokeMachineReady", {}},
         {"StartTransport", {{"BoardId", 'g', false, 0, 0}, {"ConveyorSpeed", 'p', true, 0, 0}}},
         {"StopTransport", {{"TransferState", 'i', false, 1, 3}, {"BoardId", 'g', false, 0, 0}}},
         {"TransportFinished", {{"TransferState", 'i', false, 1, 3}, {"BoardId", 'g', false, 0, 0}}},
         {"CheckAlive", {{"Type", 'i', true, 1, 2}, {"Id", 't', true, 0, 80}}},
+        {"BoardForecast",
+         {{"ForecastId", 't', true, 0, 80}, {"TimeUntilAvailable", 'p', true, 0, 0}, {"BoardId", 'g', true, 0, 0},
+          {"BoardIdCreatedBy", 't', true, 0, 80}, {"FailedBoard", 'i', false, 0, 2}, {"ProductTypeId", 't', true, 0, 254},
+          {"FlippedBoard", 'i', false, 0, 2}, {"TopBarcode", 't', true, 0, 254}, {"BottomBarcode", 't', true, 0, 254},
+          {"Length", 'p', true, 0, 0}, {"Width", 'p', true, 0, 0}, {"Thickness", 'p', true, 0, 0}, {"ConveyorSpeed", 'p', true, 0, 0},
+          {"TopClearanceHeight", 'p', true, 0, 0}, {"BottomClearanceHeight", 'p', true, 0, 0}, {"Weight", 'p', true, 0, 0},
+          {"WorkOrderId", 't', true, 0, 80}}},
     };
     return rows;
 }

@@ -1,7 +1,7 @@
 #!/usr/bin/env python3
 """Reads the messages that the cases `write` with expat, and compares them with what they were meant to say.
 
-Usage: python3 outside/written.py FILE, where FILE holds the output of `cases`. The line behind one that starts with `write 6000` is a message, unless it was refused.
+Usage: python3 outside/written.py FILE, where FILE holds the output of `cases`. The line behind one that starts with `write 6` is a message, unless it was refused.
 Every name, value, child and their order is compared with the list below, which is in plain characters. Prints each disagreement, then a count."""
 
 import sys
@@ -33,6 +33,13 @@ def bare(name, *attributes):
 def notification(code, severity, description):
     return bare("Notification", ("NotificationCode", code), ("Severity", severity), ("Description", description))
 
+
+def forecast(*attributes):
+    """A BoardForecast with these in front of what it must have."""
+    return bare("BoardForecast", *attributes, ("FailedBoard", "0"), ("FlippedBoard", "1"))
+
+
+MOST = "9999999.999999"
 
 MEANT = [
     service("Löt ≥ 3 \N{MUSICAL SYMBOL G CLEF}", "1", "1.6", [FORECAST, QUERY, SEND]),
@@ -96,6 +103,53 @@ MEANT = [
     bare("CheckAlive", ("Type", "1")),
     bare("CheckAlive", ("Type", "2"), ("Id", "&" * 80)),
     bare("CheckAlive", ("Id", "")),
+    bare(
+        "BoardForecast",
+        ("ForecastId", "F7"),
+        ("TimeUntilAvailable", "12.5"),
+        ("BoardId", MIXED),
+        ("BoardIdCreatedBy", ""),
+        ("FailedBoard", "2"),
+        ("ProductTypeId", "p"),
+        ("FlippedBoard", "0"),
+        ("TopBarcode", "t"),
+        ("BottomBarcode", "b"),
+        ("Length", "160.5"),
+        ("Width", "1"),
+        ("Thickness", "2"),
+        ("ConveyorSpeed", "3"),
+        ("TopClearanceHeight", "4"),
+        ("BottomClearanceHeight", "5"),
+        ("Weight", "6"),
+        ("WorkOrderId", "w"),
+    ),
+    forecast(),
+    forecast(("ForecastId", 'a"&')),
+    forecast(("ForecastId", "")),
+    forecast(("ForecastId", "f" * 80)),
+    bare("MachineReady", ("FailedBoard", "0"), ("ForecastId", "F7")),
+    bare("MachineReady", ("FailedBoard", "0"), ("ForecastId", "")),
+    bare("MachineReady", ("FailedBoard", "0"), ("ForecastId", "f" * 80)),
+    bare(
+        "BoardForecast",
+        ("ForecastId", '"' * 80),
+        ("TimeUntilAvailable", MOST),
+        ("BoardId", MIXED),
+        ("BoardIdCreatedBy", '"' * 80),
+        ("FailedBoard", "0"),
+        ("ProductTypeId", '"' * 254),
+        ("FlippedBoard", "0"),
+        ("TopBarcode", '"' * 254),
+        ("BottomBarcode", '"' * 254),
+        ("Length", MOST),
+        ("Width", MOST),
+        ("Thickness", MOST),
+        ("ConveyorSpeed", MOST),
+        ("TopClearanceHeight", MOST),
+        ("BottomClearanceHeight", MOST),
+        ("Weight", MOST),
+        ("WorkOrderId", '"' * 80),
+    ),
 ]
 
 
@@ -139,7 +193,7 @@ def compare(number, line, meant):
 def main():
     with open(sys.argv[1], "rb") as file:
         every = file.read().split(b"\n")
-    lines = [line for call, line in zip(every, every[1:]) if call.startswith(b"write 6000") and line.startswith(b"<Hermes>")]
+    lines = [line for call, line in zip(every, every[1:]) if call.startswith(b"write 6") and line.startswith(b"<Hermes>")]
     passed = 0
     wrong = []
     for number, (line, meant) in enumerate(zip(lines, MEANT), 1):

@@ -29,6 +29,7 @@ const struct row BELT_ROWS[] = {
      .sends = TRYPHOMEL_TRANSPORT_FINISHED, .transfer = COMPLETE},
     {"up-14", UP, .states = IN(FINISHED), .event = RECEIVED, .kinds = OF(STOP_TRANSPORT), .belt = STANDS},
     {"up-15", UP, .states = EVERY_STATE & ~(IN(OFFERED) | IN(BOTH) | IN(TRANSPORTING)), .event = TROUBLE, .belt = STANDS},
+    {"up-16", UP, .states = IN(IDLE) | IN(READY), .event = FORESEES, .belt = STANDS, .sends = TRYPHOMEL_BOARD_FORECAST},
 
     {"down-1", DOWN, .states = IN(NOT_CONNECTED), .event = CONNECTED, .belt = STANDS, .sends = TRYPHOMEL_SERVICE_DESCRIPTION},
     {"down-2", DOWN, .states = IN(DESCRIBED_DOWN), .event = RECEIVED, .kinds = OF(SERVICE_DESCRIPTION), .belt = STANDS},
@@ -49,6 +50,12 @@ const struct row BELT_ROWS[] = {
      .transfer = INCOMPLETE},
     {"down-15", DOWN, .states = IN(STOPPED), .event = RECEIVED, .kinds = OF(TRANSPORT_FINISHED), .belt = STANDS},
     {"down-16", DOWN, .states = EVERY_STATE & ~(IN(READY) | IN(BOTH) | IN(TRANSPORTING) | IN(FINISHED)), .event = TROUBLE, .belt = STANDS},
+    {"down-17", DOWN, .states = IN(IDLE) | IN(READY), .event = RECEIVED, .kinds = OF(BOARD_FORECAST), .belt = STANDS},
+    {"down-18", DOWN, .states = IN(TRANSPORTING), .event = RECEIVED, .kinds = OF(BOARD_FORECAST), .belt = AS_IT_IS},
+    {"down-19", DOWN, .states = IN(STOPPED), .event = RECEIVED, .kinds = OF(BOARD_FORECAST), .belt = STANDS},
+    {"down-20", DOWN, .states = IN(READY) | IN(BOTH), .event = WIDENS, .belt = STANDS, .sends = TRYPHOMEL_REVOKE_MACHINE_READY},
+    {"down-21", DOWN, .states = IN(IDLE) | IN(OFFERED), .event = WIDENS, .belt = STANDS},
+    {"down-22", DOWN, .states = IN(IDLE) | IN(OFFERED), .event = DECLINES, .belt = STANDS, .sends = TRYPHOMEL_NOTIFICATION},
 
     {"both-1", EITHER, .states = EVERY_STATE, .event = RECEIVED, .kinds = OF(UNKNOWN) | OF(NOTIFICATION) | OF(CHECK_ALIVE), .belt = AS_IT_IS},
     {"both-2", EITHER, .states = EVERY_STATE, .event = REFUSED, .belt = STANDS},

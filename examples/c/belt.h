@@ -9,12 +9,15 @@ enum event {
     CONNECTED, /* the connection stands */
     RECEIVED,  /* a message is accepted */
     BOARD,     /* own: a board is ready to leave (upstream) */
-    CAN_TAKE,  /* own: there is room for a board (downstream) */
+    CAN_TAKE,  /* own: there is room for a board, and the rails are as forecast (downstream) */
     FETCHES,   /* own: the offered board is fetched (downstream) */
     MOVES,     /* own sensor: the board is between both machines */
     LEFT,      /* own sensor: the board has left (upstream) */
     ARRIVED,   /* own sensor: the board is fully in (downstream) */
     TROUBLE,   /* own error, own time-out, or the operator stops */
+    FORESEES,  /* own: another product comes next (upstream) */
+    WIDENS,    /* own: the rails are set for the forecast board (downstream) */
+    DECLINES,  /* own: the rails cannot be set for it (downstream) */
     REFUSED,   /* receiving is refused with 2, 3, 4, 5, 6 or 9 */
     NO_ROOM,   /* receiving is refused with 7 */
     NOT_SENT,  /* sending is refused */

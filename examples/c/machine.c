@@ -10,13 +10,16 @@
 
 enum { HALVES_APART_MS = 20 };
 
+/* The NotificationCode of a forecast that cannot be met (001, 3.5). */
+enum { FORECAST_ERROR = 6 };
+
 static const char *const BOARDS[] = {"5d10d8c0-8c0a-4d5e-9f2b-0123456789ab", "0e9b7a52-31c4-4f6d-8a17-fedcba987654"};
 
 const char *kind_name(uint64_t kind) {
     static const char *const names[] = {"unknown message",      "ServiceDescription", "Notification",       "BoardAvailable",
                                         "RevokeBoardAvailable", "MachineReady",       "RevokeMachineReady", "StartTransport",
-                                        "StopTransport",        "TransportFinished",  "CheckAlive"};
-    return kind <= TRYPHOMEL_CHECK_ALIVE ? names[kind] : "no kind";
+                                        "StopTransport",        "TransportFinished",  "CheckAlive",         "BoardForecast"};
+    return kind <= TRYPHOMEL_BOARD_FORECAST ? names[kind] : "no kind";
 }
 
 const char *state_name(uint8_t state) {
@@ -27,16 +30,16 @@ const char *state_name(uint8_t state) {
 const char *belt_name(enum belt belt) { return belt == RUNS ? "RUNS" : "stands"; }
 
 static const char *event_name(enum event event) {
-    static const char *const names[] = {
-        "connected", "", "board ready", "can take a board", "fetches the board", "board between", "board left", "board in", "error or stop", "",
-        "",          ""};
-    return names[event];
+    static const char *const names[] = {"connected",  "",         "board ready",   "can take a board",   "fetches the board", "board between",
+                                        "board left", "board in", "error or stop", "foresees a product", "sets its rails",    "cannot set its rails"};
+    return event <= DECLINES ? names[event] : "";
 }
 
 void machine_show(const struct machine *m, const char *verb, const char *what) {
     static const char *const orders[] = {"", "order 1, run", "order 2, cancel", "order 3, stop now"};
-    printf("  %-10s %-8s %-27s %-18s %-13s belt %-7s %s\n", m->name, verb, what, orders[m->order & 3], state_name(m->lane.state), belt_name(m->belt),
-           m->row != NULL ? m->row->name : "");
+    printf("  %-10s %-8s %-27s %-18s %-13s belt %-7s ", m->name, verb, what, orders[m->order & 3], state_name(m->lane.state), belt_name(m->belt));
+    if (m->lane.forecast_length != 0) printf("keeps %.*s ", m->lane.forecast_length, (const char *)m->lane.forecast);
+    printf("%s\n", m->row != NULL ? m->row->name : "");
     fflush(stdout);
 }
 
@@ -81,6 +84,13 @@ void machine_start(struct machine *m, uint8_t side, int line) {
     machine_own(m, CONNECTED);
 }
 
+static void hang_up(struct machine *m) {
+    line_close(m->line);
+    m->line = -1;
+    m->held = 0;
+    m->foretold[0] = 0;
+}
+
 void machine_lost(struct machine *m) {
     struct happening now = {.event = LOST};
     if (m->line < 0) return;
@@ -88,9 +98,7 @@ void machine_lost(struct machine *m) {
     belt(m, m->lane.state, &now);
     tryphomel_lane_lost(&m->lane);
     machine_show(m, "has lost", "the connection");
-    line_close(m->line);
-    m->line = -1;
-    m->held = 0;
+    hang_up(m);
 }
 
 int machine_put(struct machine *m, const void *bytes, size_t size) {
@@ -110,6 +118,11 @@ static void put_or_lose(struct machine *m, const void *bytes, size_t size) {
     if (size > 0 && !machine_put(m, bytes, size)) machine_lost(m);
 }
 
+/* The ForecastId of our next forecast. */
+static void next_forecast(const struct machine *m, char id[TRYPHOMEL_FORECAST_BYTES + 1]) {
+    snprintf(id, TRYPHOMEL_FORECAST_BYTES + 1, "F&%u", m->forecasts + 1);
+}
+
 /* A message with the texts it names. */
 struct letter {
     tryphomel_message message;
@@ -117,18 +130,20 @@ struct letter {
     size_t length;
 };
 
-static tryphomel_words text(struct letter *to, const char *s) {
-    tryphomel_words words = tryphomel_part(to->length, strlen(s));
-    memcpy(to->texts + to->length, s, strlen(s));
-    to->length += strlen(s);
+static tryphomel_words bytes_of(struct letter *to, const void *bytes, size_t count) {
+    tryphomel_words words = tryphomel_part(to->length, count);
+    memcpy(to->texts + to->length, bytes, count);
+    to->length += count;
     return words;
 }
+
+static tryphomel_words text(struct letter *to, const char *s) { return bytes_of(to, s, strlen(s)); }
 
 static void describe(struct letter *to, const struct machine *m) {
     to->message.as.service.machine = text(to, m->name);
     to->message.as.service.lane = tryphomel_is(1);
     to->message.as.service.version = text(to, "1.6");
-    to->message.as.service.features = tryphomel_supports(0);
+    to->message.as.service.features = tryphomel_supports(TRYPHOMEL_FEATURE_FORECAST);
 }
 
 static void offer(struct letter *to, const struct machine *m) {
@@ -140,12 +155,36 @@ static void offer(struct letter *to, const struct machine *m) {
     to->message.as.board.length = tryphomel_is(160500000);
 }
 
+static void foretell(struct letter *to, const struct machine *m) {
+    char id[TRYPHOMEL_FORECAST_BYTES + 1];
+    next_forecast(m, id);
+    to->message.as.forecast.forecast = text(to, id);
+    to->message.as.forecast.until = tryphomel_is(30000000);
+    to->message.as.forecast.failed = tryphomel_is(1);
+    to->message.as.forecast.flipped = tryphomel_is(0);
+    to->message.as.forecast.width = tryphomel_is(80000000);
+}
+
+/* A forecast that the lane keeps is answered, but for one that we have declined. */
+static void ready(struct letter *to, const struct machine *m) {
+    to->message.as.ready.failed = tryphomel_is(0);
+    if (m->lane.forecast_length != 0 && !m->declined) to->message.as.ready.forecast = bytes_of(to, m->lane.forecast, m->lane.forecast_length);
+}
+
+static void decline(struct letter *to) {
+    to->message.as.notification.code = tryphomel_is(FORECAST_ERROR);
+    to->message.as.notification.severity = tryphomel_is(2);
+    to->message.as.notification.description = text(to, "the forecast board is too wide");
+}
+
 /* Fills in what the message's kind must have. A start names the offered board, an end the running one. */
 static void fill(struct letter *to, const struct machine *m, uint64_t transfer) {
     switch (to->message.kind) {
         case TRYPHOMEL_SERVICE_DESCRIPTION: describe(to, m); break;
         case TRYPHOMEL_BOARD_AVAILABLE: offer(to, m); break;
-        case TRYPHOMEL_MACHINE_READY: to->message.as.ready.failed = tryphomel_is(0); break;
+        case TRYPHOMEL_BOARD_FORECAST: foretell(to, m); break;
+        case TRYPHOMEL_MACHINE_READY: ready(to, m); break;
+        case TRYPHOMEL_NOTIFICATION: decline(to); break;
         case TRYPHOMEL_START_TRANSPORT: tryphomel_name_board(&to->message, m->lane.offered); break;
         case TRYPHOMEL_STOP_TRANSPORT:
         case TRYPHOMEL_TRANSPORT_FINISHED:
@@ -168,6 +207,10 @@ static void send_message(struct machine *m, uint64_t kind, uint64_t transfer) {
     m->order = s.order;
     belt_of_sent(m, before);
     remember(m);
+    if (m->refusal == TRYPHOMEL_ACCEPTED && kind == TRYPHOMEL_BOARD_FORECAST) {
+        next_forecast(m, m->foretold);
+        m->forecasts++;
+    }
     show_message(m, m->refusal == TRYPHOMEL_ACCEPTED ? "sends" : "may not", kind, transfer);
     put_or_lose(m, out, s.written);
 }
@@ -184,6 +227,7 @@ static void answer(struct machine *m) {
 static void sense(struct machine *m, enum event event) {
     if (event == BOARD || event == FETCHES) m->sees = NOT_STARTED;
     if (event == MOVES) m->sees = INCOMPLETE;
+    if (event == DECLINES) m->declined = 1;
     if (event == LEFT || event == ARRIVED) {
         m->sees = COMPLETE;
         m->boards++;
@@ -250,9 +294,7 @@ static void refuse(struct machine *m, const uint8_t *out, const tryphomel_receiv
     machine_show(m, "refuses", what);
     if (r->refusal == TRYPHOMEL_NO_ROOM) return;
     machine_put(m, out, r->written);
-    line_close(m->line);
-    m->line = -1;
-    m->held = 0;
+    hang_up(m);
 }
 
 /* A received text is a place in the received bytes: it is asked for before they are dropped. */
@@ -268,9 +310,37 @@ static void show_board(const struct machine *m, const tryphomel_message *message
     fflush(stdout);
 }
 
+/* Prints a received text behind some words. 1: it is the same as `other`. */
+static int show_text(const struct machine *m, const char *words, tryphomel_words place, const char *other) {
+    uint8_t scratch[TRYPHOMEL_LONG_TEXT];
+    const uint8_t *bytes;
+    uint64_t count;
+    if (tryphomel_words_text(place, m->in, m->held, scratch, sizeof scratch, &bytes, &count) != TRYPHOMEL_ACCEPTED) return 0;
+    printf("  %-10s          %s %.*s\n", m->name, words, (int)count, (const char *)bytes);
+    fflush(stdout);
+    return count == strlen(other) && memcmp(bytes, other, count) == 0;
+}
+
+/* What is said of forecasts: a new one comes, ours is answered, ours is declined. */
+static void note_forecast(struct machine *m, const tryphomel_message *message) {
+    switch (message->kind) {
+        case TRYPHOMEL_BOARD_FORECAST:
+            if (message->as.forecast.forecast.there) m->declined = 0;
+            break;
+        case TRYPHOMEL_MACHINE_READY:
+            if (show_text(m, "ready for forecast", message->as.ready.forecast, m->foretold)) m->foretold[0] = 0;
+            break;
+        case TRYPHOMEL_NOTIFICATION:
+            show_text(m, "is told:", message->as.notification.description, "");
+            if (message->as.notification.code.value == FORECAST_ERROR) m->foretold[0] = 0;
+            break;
+    }
+}
+
 static void accept_message(struct machine *m, const uint8_t *out, const tryphomel_received *r, const struct happening *now) {
     show_message(m, "receives", now->kind, now->transfer);
     if (now->kind == TRYPHOMEL_BOARD_AVAILABLE) show_board(m, &r->message);
+    note_forecast(m, &r->message);
     if (r->written > 0) machine_show(m, "answers", kind_name(TRYPHOMEL_CHECK_ALIVE));
     put_or_lose(m, out, r->written);
     machine_drop(m, r->used);

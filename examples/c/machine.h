@@ -11,13 +11,16 @@ struct machine {
     const char *name;
     tryphomel_lane lane;
     enum belt belt;
-    uint8_t sees;                        /* where the board is, by our sensors: 1 not started, 2 between, 3 complete */
-    unsigned boards;                     /* boards handed over completely */
-    uint8_t board[TRYPHOMEL_ID_BYTES];   /* the last board that the lane named */
-    int line;                            /* -1: none */
-    int ms;                              /* how long to wait for a message */
-    size_t pieces, gulp;                 /* how what is sent is cut; how many bytes are taken at once */
-    uint8_t in[TRYPHOMEL_MESSAGE_BYTES]; /* received and not used yet */
+    uint8_t sees;                                /* where the board is, by our sensors: 1 not started, 2 between, 3 complete */
+    unsigned boards;                             /* boards handed over completely */
+    uint8_t board[TRYPHOMEL_ID_BYTES];           /* the last board that the lane named */
+    unsigned forecasts;                          /* forecasts that we have sent */
+    char foretold[TRYPHOMEL_FORECAST_BYTES + 1]; /* the ForecastId of the last one, until it is answered or declined */
+    int declined;                                /* whether we have declined the forecast that the lane keeps */
+    int line;                                    /* -1: none */
+    int ms;                                      /* how long to wait for a message */
+    size_t pieces, gulp;                         /* how what is sent is cut; how many bytes are taken at once */
+    uint8_t in[TRYPHOMEL_MESSAGE_BYTES];         /* received and not used yet */
     size_t held;
     unsigned more;          /* how often a message was not whole yet */
     uint8_t refusal, order; /* what the last event of the line, or our sending, was answered with */

@@ -17,7 +17,8 @@ enum { PLAY_MS = 5000, AGAIN_MS = 20, FLOOD = 70000, MOST = 1024 };
 /* How long a ping waits for its answer, and how long an own event lets itself be waited for; shorter where both machines are ours. */
 static int ask_ms = 3000, own_ms = 1000;
 
-/* Whether another TransferState than the one expected is wrong. Another maker's machine may see more of the board than ours. */
+/* Whether another TransferState or ForecastId than the one expected is wrong. Another maker's machine may see more of the board than ours, and has
+ * ids of its own. */
 static int strict = 0;
 
 static int wrong(const struct machine *m, const char *why) {
@@ -32,7 +33,9 @@ static int wrong_kind(const struct machine *m, uint64_t kind) {
     return wrong(m, why);
 }
 
-static int is_free(uint64_t kind) { return kind == TRYPHOMEL_UNKNOWN || kind == TRYPHOMEL_NOTIFICATION || kind == TRYPHOMEL_CHECK_ALIVE; }
+static int is_free(uint64_t kind) {
+    return kind == TRYPHOMEL_UNKNOWN || kind == TRYPHOMEL_NOTIFICATION || kind == TRYPHOMEL_CHECK_ALIVE || kind == TRYPHOMEL_BOARD_FORECAST;
+}
 
 /* A board's id; for ~ the last digit is another one, for ^ the last letter is a capital. */
 static void name_board(const uint8_t *board, char how, char *id) {
@@ -63,6 +66,12 @@ static int is_board(const uint8_t *board, const char *text, const uint8_t *id) {
     return memcmp(spelt, id, TRYPHOMEL_ID_BYTES) == 0;
 }
 
+static int is_open(const struct machine *m, const char *id) {
+    if (m->lane.side == TRYPHOMEL_UPSTREAM) return strcmp(m->foretold, id) == 0;
+    if (!strict) return (m->lane.forecast_length != 0) == (id[0] != 0);
+    return m->lane.forecast_length == strlen(id) && memcmp(m->lane.forecast, id, strlen(id)) == 0;
+}
+
 /* What must be so after every step, and what the step says of it. */
 static int as_expected(const struct machine *m, const struct step *step, uint8_t order) {
     char why[160];
@@ -70,6 +79,7 @@ static int as_expected(const struct machine *m, const struct step *step, uint8_t
     if (m->belt == RUNS && m->lane.state != TRYPHOMEL_TRANSPORTING && m->lane.state != TRYPHOMEL_FINISHED)
         return wrong(m, "the belt runs, and no transport is under way");
     if (m->belt != step->belt) return wrong(m, step->belt == STANDS ? "the belt runs and must stand" : "the belt stands and must run");
+    if (step->forecast != NULL && !is_open(m, step->forecast)) return wrong(m, "another forecast is open than expected");
     if (m->refusal == step->refusal && order == step->order && m->lane.state == step->state) return 1;
     snprintf(why, sizeof why, "refusal %u, order %u, %s; expected are refusal %u, order %u, %s", m->refusal, order, state_name(m->lane.state),
              step->refusal, step->order, state_name(step->state));
@@ -186,7 +196,7 @@ static int sees(struct machine *m, const struct step *step) {
     do
         while (!look(m, &c))
             if (machine_more(m) <= 0) return wrong(m, "no message came");
-    while (is_free(c.message.kind));
+    while (is_free(c.message.kind) && c.message.kind != step->what);
     if (c.message.kind != step->what) return wrong_kind(m, step->what);
     if (strict && step->transfer != 0 && c.message.as.transfer.state.value != step->transfer) return wrong(m, "another TransferState was expected");
     if (step->text != NULL && !is_board(m->board, step->text, c.message.id)) return wrong(m, "this is another board");

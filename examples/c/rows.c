@@ -14,6 +14,9 @@
         "<Hermes><Notification NotificationCode='1' Severity='1' Description=''/></Hermes>", \
         "<Hermes><BoardAvailable BoardId='" id "' BoardIdCreatedBy='m' FailedBoard='0' FlippedBoard='0'/></Hermes>", \
         "<Hermes><RevokeBoardAvailable/></Hermes>", "<Hermes><MachineReady FailedBoard='0'/></Hermes>", "<Hermes><RevokeMachineReady/></Hermes>", \
+        "<Hermes><MachineReady FailedBoard='0' ForecastId='f'/></Hermes>", \
+        "<Hermes><BoardForecast FailedBoard='0' FlippedBoard='0'/></Hermes>", \
+        "<Hermes><BoardForecast ForecastId='f' BoardId='" id "' FailedBoard='0' FlippedBoard='0'/></Hermes>", \
         "<Hermes><StartTransport BoardId='" id "'/></Hermes>", "<Hermes><StopTransport TransferState='1' BoardId='" id "'/></Hermes>", \
         "<Hermes><StopTransport TransferState='2' BoardId='" id "'/></Hermes>", \
         "<Hermes><StopTransport TransferState='3' BoardId='" id "'/></Hermes>", \

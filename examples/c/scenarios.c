@@ -1,5 +1,5 @@
-/* The scenarios of source document 001, 2.3.4 (U1a to D3), what can cross on the line, and what a machine must stand that is not as it should be.
- * The expected states and belts are written out here and do not come from the rows in belt.c. */
+/* The scenarios of source document 001, 2.3.4 (U1a to D3) and 2.3.5 (forecasts), what can cross on the line, and what a machine must stand that is
+ * not as it should be. The expected states and belts are written out here and do not come from the rows in belt.c. */
 #include "scenarios.h"
 
 #include <string.h>
@@ -19,6 +19,10 @@
     { .does = DO_TAKES, .what = TRYPHOMEL_##kind_, .order = TRYPHOMEL_ORDER_##order_, .state = TRYPHOMEL_##state_, .belt = belt_, .text = id_ }
 #define TRIES(kind_, refusal_, state_, belt_) \
     { .does = DO_TRIES, .what = TRYPHOMEL_##kind_, .refusal = TRYPHOMEL_##refusal_, .state = TRYPHOMEL_##state_, .belt = belt_ }
+#define OWN_OPEN(event_, state_, belt_, forecast_) \
+    { .does = DO_OWN, .what = event_, .state = TRYPHOMEL_##state_, .belt = belt_, .forecast = forecast_ }
+#define TAKES_OPEN(kind_, state_, belt_, forecast_) \
+    { .does = DO_TAKES, .what = TRYPHOMEL_##kind_, .state = TRYPHOMEL_##state_, .belt = belt_, .forecast = forecast_ }
 #define ENDS(kind_, transfer_, state_, belt_) \
     { .does = DO_TAKES, .what = TRYPHOMEL_##kind_, .transfer = transfer_, .state = TRYPHOMEL_##state_, .belt = belt_ }
 #define REFUSES(refusal_, order_) \
@@ -124,6 +128,52 @@ STEPS(crossing_offer_up, UP_MEETS, UP_BOTH, OWN(TROUBLE, READY, STANDS), OWN(BOA
       LOSES);
 STEPS(crossing_offer_down, DOWN_MEETS, DOWN_RUNS, TAKES(REVOKE_BOARD_AVAILABLE, NONE, TRANSPORTING, RUNS), REFUSES(PROTOCOL_ERROR, STOP_NOW));
 
+/* The rails are set for the forecast board, and MachineReady has its ForecastId; then the board comes. */
+#define UP_FOLLOWS \
+    OWN(BOARD, BOTH, STANDS), TAKES(START_TRANSPORT, RUN, TRANSPORTING, RUNS), OWN(MOVES, TRANSPORTING, RUNS), OWN(LEFT, FINISHED, RUNS), \
+        ENDS(STOP_TRANSPORT, COMPLETE, IDLE, STANDS)
+#define DOWN_FOLLOWS \
+    TAKES(BOARD_AVAILABLE, NONE, BOTH, STANDS), FETCH, OWN(MOVES, TRANSPORTING, RUNS), ENDS(TRANSPORT_FINISHED, COMPLETE, FINISHED, RUNS), \
+        OWN(ARRIVED, IDLE, STANDS)
+#define UP_ANSWERED TAKES_OPEN(MACHINE_READY, READY, STANDS, ""), UP_FOLLOWS
+#define DOWN_ANSWERS(id) OWN_OPEN(WIDENS, IDLE, STANDS, id), OWN_OPEN(CAN_TAKE, READY, STANDS, ""), DOWN_FOLLOWS
+STEPS(changeover_up, UP_MEETS, OWN_OPEN(FORESEES, IDLE, STANDS, "F&1"), UP_ANSWERED);
+STEPS(changeover_down, DOWN_MEETS, TAKES_OPEN(BOARD_FORECAST, IDLE, STANDS, "F&1"), DOWN_ANSWERS("F&1"));
+
+/* Two forecasts meet a machine that is ready: it takes that back, and answers the last one. */
+STEPS(changeover_ready_up, UP_MEETS, TAKES(MACHINE_READY, NONE, READY, STANDS), OWN_OPEN(FORESEES, READY, STANDS, "F&1"),
+      OWN_OPEN(FORESEES, READY, STANDS, "F&2"), TAKES_OPEN(REVOKE_MACHINE_READY, IDLE, STANDS, "F&2"), UP_ANSWERED);
+STEPS(changeover_ready_down, DOWN_MEETS, OWN(CAN_TAKE, READY, STANDS), TAKES_OPEN(BOARD_FORECAST, READY, STANDS, "F&1"),
+      TAKES_OPEN(BOARD_FORECAST, READY, STANDS, "F&2"), DOWN_ANSWERS("F&2"));
+
+/* The rails cannot be set: a Notification. The operator gives in, and a forecast that can be met follows. */
+STEPS(changeover_no_up, UP_MEETS, OWN_OPEN(FORESEES, IDLE, STANDS, "F&1"), TAKES_OPEN(NOTIFICATION, IDLE, STANDS, ""),
+      OWN_OPEN(FORESEES, IDLE, STANDS, "F&2"), UP_ANSWERED);
+STEPS(changeover_no_down, DOWN_MEETS, TAKES_OPEN(BOARD_FORECAST, IDLE, STANDS, "F&1"), OWN_OPEN(DECLINES, IDLE, STANDS, "F&1"),
+      TAKES_OPEN(BOARD_FORECAST, IDLE, STANDS, "F&2"), DOWN_ANSWERS("F&2"));
+
+/* It cannot be met, and the machine is ready for what it can take: MachineReady has no ForecastId, and the lane keeps it. */
+STEPS(changeover_never_up, UP_MEETS, OWN_OPEN(FORESEES, IDLE, STANDS, "F&1"), TAKES_OPEN(NOTIFICATION, IDLE, STANDS, ""), UP_GIVES);
+STEPS(changeover_never_down, DOWN_MEETS, TAKES_OPEN(BOARD_FORECAST, IDLE, STANDS, "F&1"), OWN_OPEN(DECLINES, IDLE, STANDS, "F&1"),
+      OWN_OPEN(CAN_TAKE, READY, STANDS, "F&1"), DOWN_FOLLOWS);
+
+/* The offer is revoked and a forecast sent while the start is on its way: it changes nothing, and is answered when the belts stand. */
+STEPS(forecast_crosses_up, UP_MEETS, UP_BOTH, OWN(TROUBLE, READY, STANDS), OWN_OPEN(FORESEES, READY, STANDS, "F&1"),
+      TAKES(START_TRANSPORT, CANCEL, FINISHED, STANDS), ENDS(STOP_TRANSPORT, NOT_STARTED, IDLE, STANDS), UP_ANSWERED);
+STEPS(forecast_crosses_down, DOWN_MEETS, DOWN_RUNS, TAKES(REVOKE_BOARD_AVAILABLE, NONE, TRANSPORTING, RUNS),
+      TAKES_OPEN(BOARD_FORECAST, TRANSPORTING, RUNS, "F&1"), ENDS(TRANSPORT_FINISHED, NOT_STARTED, IDLE, STANDS), DOWN_ANSWERS("F&1"));
+STEPS(forecast_stopped_up, UP_MEETS, UP_BOTH, OWN(TROUBLE, READY, STANDS), OWN_OPEN(FORESEES, READY, STANDS, "F&1"),
+      TAKES(START_TRANSPORT, CANCEL, FINISHED, STANDS), ENDS(STOP_TRANSPORT, INCOMPLETE, IDLE, STANDS), UP_ANSWERED);
+STEPS(forecast_stopped_down, DOWN_MEETS, DOWN_RUNS, OWN(TROUBLE, STOPPED, STANDS), TAKES(REVOKE_BOARD_AVAILABLE, NONE, STOPPED, STANDS),
+      TAKES_OPEN(BOARD_FORECAST, STOPPED, STANDS, "F&1"), ENDS(TRANSPORT_FINISHED, NOT_STARTED, IDLE, STANDS), DOWN_ANSWERS("F&1"));
+
+/* A forecast while a board is offered, and one when the board has left. */
+#define FORECAST "<Hermes><BoardForecast ForecastId='x' FailedBoard='0' FlippedBoard='0'/></Hermes>"
+STEPS(forecast_early_up, UP_MEETS, OWN(BOARD, OFFERED, STANDS), PUTS(FORECAST), IS_ENDED);
+STEPS(forecast_early_down, DOWN_MEETS, TAKES(BOARD_AVAILABLE, NONE, OFFERED, STANDS), REFUSES(PROTOCOL_ERROR, NONE));
+STEPS(forecast_late_up, UP_MEETS, UP_RUNS, OWN(LEFT, FINISHED, RUNS), PUTS(FORECAST), IS_ENDED);
+STEPS(forecast_late_down, DOWN_MEETS, DOWN_RUNS, ENDS(TRANSPORT_FINISHED, COMPLETE, FINISHED, RUNS), REFUSES(PROTOCOL_ERROR, STOP_NOW));
+
 /* A start after the revoke has arrived, from a machine that does not care; then readiness is taken back, and a start comes unasked. */
 STEPS(late_up, UP_MEETS, UP_BOTH, OWN(TROUBLE, READY, STANDS), TAKES(START_TRANSPORT, CANCEL, FINISHED, STANDS),
       ENDS(STOP_TRANSPORT, NOT_STARTED, IDLE, STANDS));
@@ -174,9 +224,11 @@ STEPS(no_room_up, UP_MEETS, UP_RUNS, LACKS_ROOM(TRANSPORTING), REFUSES(MALFORMED
 
 /* Messages at the wrong time are not sent, and change nothing. */
 STEPS(may_not_up, UP_MEETS, TRIES(TRANSPORT_FINISHED, BAD_VALUE, IDLE, STANDS), UP_BOTH, TRIES(BOARD_AVAILABLE, MAY_NOT_BE_SENT, BOTH, STANDS),
+      TRIES(BOARD_FORECAST, MAY_NOT_BE_SENT, BOTH, STANDS),
       TAKES(START_TRANSPORT, RUN, TRANSPORTING, RUNS), TRIES(REVOKE_BOARD_AVAILABLE, MAY_NOT_BE_SENT, TRANSPORTING, RUNS), OWN(LEFT, FINISHED, RUNS),
       ENDS(STOP_TRANSPORT, COMPLETE, IDLE, STANDS));
 STEPS(may_not_down, DOWN_MEETS, OWN(CAN_TAKE, READY, STANDS), TRIES(START_TRANSPORT, BAD_VALUE, READY, STANDS),
+      TRIES(BOARD_FORECAST, MAY_NOT_BE_SENT, READY, STANDS),
       TAKES(BOARD_AVAILABLE, NONE, BOTH, STANDS), FETCH, TRIES(MACHINE_READY, MAY_NOT_BE_SENT, TRANSPORTING, RUNS),
       ENDS(TRANSPORT_FINISHED, COMPLETE, FINISHED, RUNS), OWN(ARRIVED, IDLE, STANDS));
 
@@ -227,6 +279,14 @@ const struct scenario SCENARIOS[] = {
     {"crossing", "a revoke crosses a start", crossing_up, crossing_down, 0, 0},
     {"crossing-stopped", "a revoke crosses a start and arrives behind the stop", crossing_stopped_up, crossing_stopped_down, 0, 0},
     {"crossing-offer", "a revoke and a new offer cross a start", crossing_offer_up, crossing_offer_down, 0, 0},
+    {"changeover", "a forecast, and rails that are set for it", changeover_up, changeover_down, 0, 0},
+    {"changeover-ready", "two forecasts to a machine that is ready: the last one is answered", changeover_ready_up, changeover_ready_down, 0, 0},
+    {"changeover-no", "a forecast that cannot be met, and one that can", changeover_no_up, changeover_no_down, 0, 0},
+    {"changeover-never", "a forecast that cannot be met, and a board that can be taken", changeover_never_up, changeover_never_down, 0, 0},
+    {"forecast-crosses", "a revoke and a forecast cross a start", forecast_crosses_up, forecast_crosses_down, 0, 0},
+    {"forecast-stopped", "a revoke and a forecast cross a start and arrive behind the stop", forecast_stopped_up, forecast_stopped_down, 0, 0},
+    {"forecast-early", "a forecast while a board is offered", forecast_early_up, forecast_early_down, 0, 0},
+    {"forecast-late", "a forecast after the board has left the upstream machine", forecast_late_up, forecast_late_down, 0, 0},
     {"late-start", "a start after the revoke has arrived", late_up, late_down, 0, 0},
     {"unasked-start", "a start without readiness", unasked_up, unasked_down, 0, 0},
     {"foreign-id", "a start for another board", foreign_up, foreign_down, 0, 0},

@@ -8,7 +8,7 @@ enum does {
     DO_DONE,     /* the end of the steps */
     DO_OWN,      /* an own event happens */
     DO_TRIES,    /* a message is tried that may not be sent */
-    DO_TAKES,    /* a message of this kind is received; CheckAlive, Notification and unknown ones may come before it */
+    DO_TAKES,    /* a message of this kind is received; CheckAlive, Notification, BoardForecast and unknown ones may come before it */
     DO_REFUSES,  /* what is received is refused */
     DO_LOSES,    /* the connection is lost */
     DO_ASKS,     /* pings; without an answer the connection is lost */
@@ -31,6 +31,8 @@ struct step {
     uint64_t transfer; /* of a message that is received or seen; 0: any */
     const char *text;  /* PUTS: @ is the id of the lane's board, ~ the same but for its last digit, ^ the same with a capital; TAKES: the id in use */
     size_t room;       /* what is lent for an answer; 0: enough */
+    /* the ForecastId that is open after the step: downstream the one that the lane keeps, upstream the one that has no answer yet; NULL: any */
+    const char *forecast;
 };
 
 struct scenario {

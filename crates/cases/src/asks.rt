@@ -1,7 +1,8 @@
 // Calls that change no lane. `check NAME`: what reading answers, and behind the semicolon what checking does, with the values of an accepted message in
 // table order: an absent one is `-`, a text its place and length, features their bits. `write ROOM` and a message. `move` with a record, a kind and an
-// id: what a message does to a lane, received and sent.
+// id: what a message does to a lane, received and sent; bytes behind the tab are its ForecastId.
 use crate::feeding::feed;
+use crate::given::forecast;
 use crate::given::id;
 use crate::given::kind;
 use crate::given::message;
@@ -15,16 +16,18 @@ use crate::show::put;
 use crate::show::small;
 use crate::show::told;
 use lane::Event;
+use lane::Forecast;
 use lane::Lane;
 use lane::Moved;
 use message::Checked;
-use message::kinds::Message;
+use message::Message;
+use message::cells::NUMBERS;
 use reader::answer::Answer;
 use rows::data::Range;
 use writes::Written;
 
 /// The room of a buffer for what is written.
-const ROOM: usize = 6000;
+const ROOM: usize = 6500;
 
 fn three(answer: u64, start: usize, place: usize) {
     told(b"", answer);
@@ -76,27 +79,20 @@ fn value(form: u64, there: u64, a: u64, b: u64, id: [u8; 36]) {
 }
 
 // The values of the rows in a range.
-fn in_order(numbers: [u64; structs::NUMBERS], id: [u8; 36], range: Range) {
+fn in_order(cells: [u64; NUMBERS], id: [u8; 36], range: Range) {
     for i in 0..24 {
         if range.count <= i {
             return;
         }
         let f = form(range.from, i);
-        value(
-            f,
-            numbers[3 * i + 1],
-            numbers[3 * i + 2],
-            numbers[3 * i + 3],
-            id,
-        );
+        value(f, cells[3 * i], cells[3 * i + 1], cells[3 * i + 2], id);
     }
 }
 
 fn values(m: Message) {
-    let kind = m.kind;
-    let numbers = structs::numbers_of(m);
-    let id = structs::id_of(m);
-    in_order(numbers, id, rows::data::rows_of(kind));
+    let cells = m.cells;
+    let id = m.id;
+    in_order(cells, id, rows::data::rows_of(m.kind));
 }
 
 fn checked(c: Checked) {
@@ -146,8 +142,10 @@ fn moved(word: &[u8], before: Lane, m: Moved) {
 }
 
 // The record from 5 on, a kind and an id.
-fn moves(s: &[u8]) {
-    let lane = record(s, 5);
+fn moves(s: &[u8], v: &[u8]) {
+    let mut lane = record(s, 5, b"");
+    let none = Forecast::none();
+    lane.forecast = none;
     let n = decimal(s, 7);
     let k = kind(s, n.next + 5);
     let kind = low(k.value);
@@ -156,7 +154,13 @@ fn moves(s: &[u8]) {
         return;
     }
     let id = id(byte(s, at + 1));
-    let event = Event { kind, id };
+    let forecast = forecast(v);
+    let event = Event {
+        kind,
+        id,
+        carries: 0 < v.len(),
+        forecast,
+    };
     moved(b"received ", lane, lane.received(event));
     moved(b"; sent ", lane, lane.sent(event));
     put(b"\n");
@@ -168,7 +172,7 @@ pub fn ask(s: &[u8], v: &[u8]) {
     match letter {
         b'c' => check(v),
         b'f' => feed(v),
-        b'm' => moves(s),
+        b'm' => moves(s, v),
         b'w' => write(s, v),
         _ => {
             let n = decimal(s, 4);

@@ -1,5 +1,5 @@
 // Calls on lanes. A line names the lane: `u` upstream, `d` downstream, `r` the record that was put down last, `l` where the last call led to. `put LANE`
-// and a record put it down. `receive LANE ROOM NAME`; `send LANE ROOM` and a message; `arrive LANE ROOM NAME` receives what was sent last; `lost LANE`.
+// and a record put it down, with the bytes of its ForecastId behind the tab. `receive LANE ROOM NAME`; `send LANE ROOM` and a message; `arrive LANE ROOM NAME` receives what was sent last; `lost LANE`.
 use crate::given::message;
 use crate::given::record;
 use crate::line::byte;
@@ -12,7 +12,7 @@ use crate::show::told;
 use handover::Received;
 use handover::Sent;
 use lane::Lane;
-use message::kinds::Message;
+use message::Message;
 ghost use Prim.Native.Nat.{_≤_};
 
 /// The room of a buffer for what is written back.
@@ -202,7 +202,7 @@ fn step(l: Lanes, s: &[u8], at: usize, v: &[u8], wire: &mut [u8]) -> After
             sent,
         },
         _ => After {
-            lane: set(record(s, at + 2)),
+            lane: set(record(s, at + 2, v)),
             sent,
         },
     }

@@ -7,9 +7,11 @@ use crate::line::find;
 use crate::line::is_digit;
 use crate::line::low;
 use crate::line::wide;
+use lane::Forecast;
 use lane::Lane;
 use lane::Side;
-use message::kinds::Message;
+use message::Message;
+use message::cells::NUMBERS;
 ghost use Prim.Native.Nat.{_≤_};
 
 pub const A: [u8; 36] = *b"01234567-89ab-cdef-0123-456789abcdef";
@@ -141,7 +143,7 @@ fn word(s: &[u8], at: usize, letter: u8) -> Value {
 /// The message from a place on.
 pub fn message(s: &[u8], from: usize) -> Message {
     let k = kind(s, from);
-    let mut cells = [0u64; 72];
+    let mut cells = [0u64; NUMBERS];
     let mut letter = b'-';
     let mut at = k.next;
     for i in 0..24 {
@@ -152,7 +154,12 @@ pub fn message(s: &[u8], from: usize) -> Message {
         letter = c.letter;
         at = c.next;
     }
-    structs::message_of(low(k.value), &cells, id(letter))
+    let id = id(letter);
+    Message {
+        kind: low(k.value),
+        cells: cells,
+        id: id,
+    }
 }
 
 fn side(b: u8) -> u8 {
@@ -164,18 +171,32 @@ fn side(b: u8) -> u8 {
     }
 }
 
-/// The record from a place on: `SIDE STATE OFFERED RUNNING`, a state by its number, ids by their letters.
-pub fn record(s: &[u8], at: usize) -> Lane
+/// A ForecastId of these bytes.
+pub fn forecast(v: &[u8]) -> Forecast {
+    events::kept(v)
+}
+
+/// The record from a place on: `SIDE STATE OFFERED RUNNING`, a state by its number, ids by their letters; then, if it keeps a ForecastId, the length of
+/// that, whose bytes are v.
+pub fn record(s: &[u8], at: usize, v: &[u8]) -> Lane
     requires { ⌜ at ≤ 1000 ⌝ }
 {
     let n = decimal(s, at + 2);
     let side = side(byte(s, at));
     let offered = id(byte(s, n.next + 1));
     let running = id(byte(s, n.next + 3));
+    let length = decimal(s, n.next + 5);
+    let kept = forecast(v);
+    let bytes = kept.bytes;
+    let forecast = Forecast {
+        length: low(length.value),
+        bytes,
+    };
     Lane {
         side,
         state: low(n.value),
         offered,
         running,
+        forecast,
     }
 }

@@ -1,9 +1,12 @@
 // The words of an answer.
+ghost use Prim.Native.Nat.{_≤_};
+ghost use lib.ListN.{length};
 use crate::given::A;
 use crate::given::B;
 use crate::given::C;
 use crate::given::X;
 use crate::line::wide;
+use lane::Forecast;
 use lane::Lane;
 use lane::Side;
 use lane::State;
@@ -48,33 +51,82 @@ pub fn state(n: u8) {
     }
 }
 
-fn same(a: [u8; 36], b: [u8; 36]) -> bool {
-    for i in 0..36 {
+fn same(a: &[u8], b: &[u8]) -> bool {
+    if a.len() != b.len() {
+        return false;
+    }
+    let mut i: usize = 0;
+    while i < a.len() {
         if a[i] != b[i] {
             return false;
         }
+        i += 1;
     }
     true
 }
 
-// An id by its letter, zero bytes as `-`.
-fn letter(id: [u8; 36]) {
-    if same(id, [0u8; 36]) {
-        put(b" -");
-    } else if same(id, A) {
-        put(b" A");
-    } else if same(id, B) {
-        put(b" B");
-    } else if same(id, C) {
-        put(b" C");
-    } else if same(id, X) {
-        put(b" X");
-    } else {
-        put(b" ?");
+// The letter of an id, `-` for zero bytes.
+fn mark(id: &[u8]) -> u8 {
+    if same(id, &[0u8; 36]) {
+        return b'-';
     }
+    if same(id, &A) {
+        return b'A';
+    }
+    if same(id, &B) {
+        return b'B';
+    }
+    if same(id, &C) {
+        return b'C';
+    }
+    if same(id, &X) {
+        return b'X';
+    }
+    b'?'
 }
 
-/// Side and state, the offered and the running id.
+fn letter(id: [u8; 36]) {
+    put(b" ");
+    put(&[mark(&id)]);
+}
+
+// How many bytes stand before the zeros at the end.
+fn filled(bytes: &[u8]) -> usize
+    ensures { λ r. ⌜ r ≤ length (now (bytes .entry)) ⌝ }
+{
+    let mut n = bytes.len();
+    while 0 < n {
+        if bytes[n - 1] != 0 {
+            return n;
+        }
+        n -= 1;
+    }
+    0
+}
+
+fn word(s: &[u8]) {
+    put(b" ");
+    put(s);
+}
+
+// A ForecastId by its length and its bytes, zeros at the end left out; nothing where there is none.
+fn named(length: u8, bytes: &[u8]) {
+    let n = filled(bytes);
+    if length == 0 {
+        if n == 0 {
+            return;
+        }
+    }
+    small(b" forecast ", length);
+    word(&bytes[..n]);
+}
+
+fn forecast(f: Forecast) {
+    let bytes = f.bytes;
+    named(f.length, &bytes);
+}
+
+/// Side and state, the offered and the running id, the forecast.
 pub fn record(lane: Lane) {
     side(lane.side);
     state(lane.state);
@@ -82,17 +134,32 @@ pub fn record(lane: Lane) {
     letter(offered);
     let running = lane.running;
     letter(running);
+    let kept = lane.forecast;
+    forecast(kept);
+}
+
+fn same_forecast(a: Forecast, b: Forecast) -> bool {
+    let mine = a.bytes;
+    let theirs = b.bytes;
+    (a.length == b.length) & same(&mine, &theirs)
+}
+
+fn same_id(a: [u8; 36], b: [u8; 36]) -> bool {
+    same(&a, &b)
 }
 
 // Whether two records are the same, bit for bit.
 fn kept(a: Lane, b: Lane) -> bool {
     let mine = a.offered;
     let theirs = b.offered;
-    let offered = same(mine, theirs);
+    let offered = same_id(mine, theirs);
     let mine = a.running;
     let theirs = b.running;
-    let running = same(mine, theirs);
-    (a.side == b.side) & (a.state == b.state) & offered & running
+    let running = same_id(mine, theirs);
+    let mine = a.forecast;
+    let theirs = b.forecast;
+    let forecast = same_forecast(mine, theirs);
+    (a.side == b.side) & (a.state == b.state) & offered & running & forecast
 }
 
 /// Whether the record stayed as it was.

@@ -25,8 +25,8 @@ use Rattle.lane.specs.declared.Lane.{Lane}
 use Rattle.lane.specs.declared.Moved.{Moved}
 use Rattle.message.specs.Checked.{Checks, ends, more, malformed, too-long, unread}
 use Rattle.message.specs.declared.checking.Checked.{Checked}
-use Rattle.message.specs.declared.kinds.Message.{Message}
-use Rattle.handover.specs.Ids.{eventOf}
+use Rattle.message.specs.declared.cells.Message.{Message}
+use Rattle.events.specs.Events.{eventOf}
 use Rattle.handover.specs.Receiving.{movedBy, Receives}
 use Rattle.handover.specs.Bench.{Case, reads, says, whole, positive, receives, readingIn, readingOf, Holds, All, bench, bench-holds}
 use Rattle.handover.specs.declared.receiving.Received.{Received}
@@ -81,8 +81,8 @@ module _ {l : Lane} {s old new : Bytes} {r : Received} (p : Receives l s old new
   moved-as : {v : Moved} → all.moved p ≡ v → (r .refusal ≡ v .refusal) × (r .lane ≡ v .lane) × (r .order ≡ v .order)
   moved-as m = (all.told-refusal p wide ∙ ap (λ (v : Moved). v .refusal) m, all.told-lane p wide ∙ ap (λ (v : Moved). v .lane) m, all.told-order p wide ∙ ap (λ (v : Moved). v .order) m)
 
-  unread-as : {c : Checked} → p .checked ≡ c → (r .refusal ≡ movedBy l (c .refusal) (c .message) .refusal) × (r .lane ≡ movedBy l (c .refusal) (c .message) .lane)
-  unread-as e = let (a, b, o) = moved-as (ap (λ (c : Checked). movedBy l (c .refusal) (c .message)) e) in (a, b)
+  unread-as : {c : Checked} → p .checked ≡ c → (r .refusal ≡ movedBy l (c .refusal) (eventOf (c .message) (p .forecast)) .refusal) × (r .lane ≡ movedBy l (c .refusal) (eventOf (c .message) (p .forecast)) .lane)
+  unread-as e = let (a, b, o) = moved-as (ap (λ (c : Checked). movedBy l (c .refusal) (eventOf (c .message) (p .forecast))) e) in (a, b)
 
   tells : (a : Answer) → Shows a (p .checked) → Tells l a r
   unfolding movedBy
@@ -92,8 +92,8 @@ module _ {l : Lane} {s old new : Bytes} {r : Received} (p : Receives l s old new
   tells (tooLongFrom start) e = unread-as e
 
   -- a message that was checked, and what the chart makes of it
-  pub in-lane : (v : Moved) → p .checked .refusal ≡ 0 → received l (eventOf (p .checked .message)) ≡ v → (r .refusal ≡ v .refusal) × (r .lane ≡ v .lane) × (r .order ≡ v .order) × (r .used ≡ p .checked .end)
-  in-lane v z e = let (a, b, o) = moved-as (all.moved-on l (p .checked .refusal) (p .checked .message) z ∙ e) in (a, b, o, all.told-used p wide)
+  pub in-lane : (v : Moved) → p .checked .refusal ≡ 0 → received l (all.event p) ≡ v → (r .refusal ≡ v .refusal) × (r .lane ≡ v .lane) × (r .order ≡ v .order) × (r .used ≡ p .checked .end)
+  in-lane v z e = let (a, b, o) = moved-as (all.moved-on l (p .checked .refusal) (all.event p) z ∙ e) in (a, b, o, all.told-used p wide)
 
 -- what else a row needs: the limit is far, and a kind that is told is accepted in every lane
 abbrev Aside : Case → Type 0
@@ -119,13 +119,13 @@ carried (says s end kind) (n, pass) (e, l, k, z) = (check-of, receive-of)
         → (r .refusal ≡ 0) × (r .lane ≡ passed w .lane) × (r .used ≡ end) × (r .message .kind ≡ kind)
     receive-of w rest old new r p room =
         let f = found rest (p .checked) (p .checks) in
-        let (a, b, c, d) = in-lane p room (passed w) (f .refusal ∙ z) (pass w (eventOf (p .checked .message)) (f .kind ∙ k)) in
+        let (a, b, c, d) = in-lane p room (passed w) (f .refusal ∙ z) (pass w (all.event p) (f .kind ∙ k)) in
         (a, b, d ∙ f .end ∙ l, ap (λ (m : Message). m .kind) (all.accepts p a .message) ∙ f .kind ∙ k)
 carried (whole s x) n e = λ r h. h ∙ ap capped e
 carried (positive s x) n e = λ r h. h ∙ ap numberRead e
 carried (receives l s v) n (e, z, g) = λ rest old new r p room.
     let f = finds rest (whole-message (text s) e) n (p .checks) z in
-    let (a, b, c, d) = in-lane p room v (f .refusal ∙ z) (ap (λ (m : Message). received l (eventOf m)) (f .message) ∙ g (f .place)) in
+    let (a, b, c, d) = in-lane p room v (f .refusal ∙ z) (ap (λ (m : Message). received l (eventOf m (p .forecast))) (f .message) ∙ g (f .place) (p .forecast)) in
     (a, b, c, d ∙ f .end)
 
 abbrev pub AllCarried : List Case → Type 0

@@ -8,14 +8,15 @@ use Rattle.grammar.specs.Bytes.{Bytes, text}
 use Rattle.lane.specs.Names.{D, DescribedDown, ServiceDescription, MayNotBeSent, ProtocolError}
 use Rattle.lane.specs.Chart.{chart, byRows, next}
 use Rattle.lane.specs.Record.{fresh, stepIn, stepOut}
+use Rattle.lane.specs.declared.Event.{Event}
 use Rattle.lane.specs.declared.Lane.{Lane}
 use Rattle.lane.specs.declared.chart.Step.the-variants.{To, NoTransition}
 use Rattle.message.specs.Checked.{Checks}
-use Rattle.message.specs.Fields.{messageFrom}
+use Rattle.message.specs.Messages.{messageFrom}
 use Rattle.message.specs.declared.checking.Checked.{Checked}
-use Rattle.message.specs.declared.kinds.Message.{Message}
+use Rattle.message.specs.declared.cells.Message.{Message}
 use Rattle.meant.specs.Meant.{refusalOf}
-use Rattle.handover.specs.Ids.{eventOf}
+use Rattle.events.specs.Events.{Carried, eventOf, eventSent}
 use Rattle.handover.specs.Runs.{receives, sends, Outcome, waits, ends, moves, Follows, answers, lacks, refuses, may-not, no-room, goes}
 use Rattle.handover.proofs.BenchCalls.{bench-carried}
 use Rattle.handover.proofs.WholeHandover.{texts, service, service-good}
@@ -37,18 +38,18 @@ not-one-message c c′ h h′ e =
     omega arith
 
 -- P2 is answered by 0 in every lane, if there is room
-alive-step : (l : Lane) (m : Message) → m .kind ≡ 10 → stepIn l (eventOf m) ≡ To (l .state)
+alive-step : (l : Lane) (i : Event) → i .kind ≡ 10 → stepIn l i ≡ To (l .state)
 unfolding next
-alive-step l m e = rw e refl
+alive-step l i e = rw e refl
 
-alive-outcome : {l l′ : Lane} {c : Checked} {n : ℕ} → Outcome l c n l′ → c .refusal ≡ 0 → c .message .kind ≡ 10 → n ≡ 0
+alive-outcome : {l l′ : Lane} {c : Checked} {F : Carried} {n : ℕ} → Outcome l c F n l′ → c .refusal ≡ 0 → c .message .kind ≡ 10 → n ≡ 0
 alive-outcome (waits e f g) z k = absurd (omega arith)
 alive-outcome (ends e f g) z k = f ∙ z
-alive-outcome {l} {c = c} (moves e f g) z k = f ∙ rw (alive-step l (c .message) k) refl
+alive-outcome {l} {c = c} {F} (moves e f g) z k = f ∙ rw (alive-step l (eventOf (c .message) F) k) refl
 
 alive-answered : {l l′ : Lane} {n : ℕ} {old : Bytes} → Follows l n l′ (receives alive old) → (n ≡ 0) ⊎ (n ≡ 7)
-alive-answered (answers c b h o w f) = inl (alive-outcome o (not-all-refused c h) (bench-carried .1 .0 .0 [] c h .3))
-alive-answered (lacks c b k x h o w f e g) = inr e
+alive-answered (answers c F b h y o w f) = inl (alive-outcome o (not-all-refused c h) (bench-carried .1 .0 .0 [] c h .3))
+alive-answered (lacks c F b k x h y o w f e g) = inr e
 
 -- no lane always asks for more
 pub not-lazy : {l l′ : Lane} {old : Bytes} → Follows l 1 l′ (receives alive old) → ⊥
@@ -59,13 +60,13 @@ pub not-nine : {l l′ : Lane} {old : Bytes} → Follows l ProtocolError l′ (r
 not-nine p = ⊎-elim (λ e. omega arith) (λ e. omega arith) (alive-answered p)
 
 -- nor refuses to send: the downstream side's first ServiceDescription may be sent
-service-step : (m : Message) → m .kind ≡ ServiceDescription → stepOut (fresh D) (eventOf m) ≡ To DescribedDown
+service-step : (i : Event) → i .kind ≡ ServiceDescription → stepOut (fresh D) i ≡ To DescribedDown
 unfolding next byRows chart
-service-step m e = rw e refl
+service-step i e = rw e refl
 
 mute-never : {m : Message} {texts old : Bytes} {l′ : Lane} → m .kind ≡ ServiceDescription → refusalOf m texts ≡ 0 → Follows (fresh D) MayNotBeSent l′ (sends m texts old) → ⊥
 mute-never k z (refuses n e f) = n z
-mute-never {m} k z (may-not a q e f) = let x : To DescribedDown ≡ NoTransition = sym (service-step m k) ∙ q in let y : _≡_ {A = ℕ} 0 1 = cc in omega arith
+mute-never {m} {texts} k z (may-not a q e f) = let x : To DescribedDown ≡ NoTransition = sym (service-step (eventSent m texts) k) ∙ q in let y : _≡_ {A = ℕ} 0 1 = cc in omega arith
 mute-never k z (no-room x a q h e f) = omega arith
 mute-never k z (goes x a q h e f) = omega arith
 

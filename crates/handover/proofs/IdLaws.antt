@@ -1,37 +1,22 @@
--- The id of a message of cells, what asks for a reply, and what the lane becomes.
+-- What asks for a reply, and what the lane becomes.
 use mathlib.Core.Path.{_≡_, refl, sym, ap, subst, _∙_}
 use mathlib.Core.List.{List}
 use mathlib.Core.Bool.{Bool, true, false, _&&_}
-use Prim.Native.Nat.{ℕ, _≤_, _<_}
+use Prim.Native.Nat.{ℕ}
 use native.Mathlib.Omega.{arith}
 use lib.Dec.{eqb}
-use borrow.Author.Tests.{ne-eqb, eq-eqb, eqb-true, le-leb, lt-leb}
+use borrow.Author.Tests.{ne-eqb, eq-eqb, eqb-true}
 use Rattle.exact.specs.Chain.{clash}
 use Rattle.lane.specs.Names.{CheckAlive}
-use Rattle.lane.specs.Record.{noId, ended, kept, received}
+use Rattle.lane.specs.Record.{ended, kept, received}
 use Rattle.lane.specs.declared.Event.{Event}
 use Rattle.lane.specs.declared.Lane.{Lane}
 use Rattle.lane.specs.declared.Moved.{Moved}
 use Rattle.grammar.specs.Bytes.{Bytes}
-use Rattle.table.specs.Table.{table, rowsOf, guidCellIn}
-use Rattle.message.specs.Fields.{messageFrom}
-use Rattle.message.specs.Cells.{NUMBERS, cellAt, wordsBy, wholeBy, fieldBy, fieldsFrom, messageBy, idCell, idBy}
-use Rattle.handover.specs.Receiving.{asksReply, asksBy, movedFor}
-
--- the id of a kind
-module _ (k : ℕ) (cells : List ℕ) (id : Bytes) {at : ℕ} (e : at ≡ guidCellIn NUMBERS (rowsOf k) 0) where
-  so : {r : Bytes} → r ≡ idBy at cells id → r ≡ idBy (idCell k) cells id
-  unfolding idCell
-  so h = h ∙ ap (λ (n : ℕ). idBy n cells id) e
-
-  pub named-none : NUMBERS ≤ at → noId ≡ idBy (idCell k) cells id
-  named-none h = so (rw (le-leb NUMBERS at h) refl)
-
-  pub named-absent : at < NUMBERS → {t : ℕ} → t ≡ cellAt cells at → t ≡ 0 → noId ≡ idBy (idCell k) cells id
-  named-absent h f z = so (rw (lt-leb NUMBERS at h, eq-eqb (cellAt cells at) 0 (sym f ∙ z)) refl)
-
-  pub named-there : at < NUMBERS → {t : ℕ} → t ≡ cellAt cells at → (t ≡ 0 → ⊥) → id ≡ idBy (idCell k) cells id
-  named-there h f n = so (rw (lt-leb NUMBERS at h, ne-eqb (cellAt cells at) 0 (λ z. n (f ∙ z))) refl)
+use Rattle.table.specs.Table.{table}
+use Rattle.message.specs.Cells.{cellAt, wordsBy, wholeBy, fieldBy, fieldsFrom}
+use Rattle.message.specs.Messages.{messageBy, fieldsOf}
+use Rattle.handover.specs.Receiving.{asksReply, replyId, asksBy, movedFor}
 
 -- a CheckAlive of Type 1
 module _ (k t n : ℕ) where
@@ -55,11 +40,11 @@ module _ (k t n : ℕ) where
 
 module _ (cells : List ℕ) (id : Bytes) where
   alive-asks : asksBy 10 (cellAt cells 0) (cellAt cells 1) ≡ asksReply (messageBy 10 cells id)
-  unfolding asksReply messageFrom fieldsFrom fieldBy table
+  unfolding asksReply fieldsOf fieldsFrom fieldBy table
   alive-asks = refl
 
   none-asks : (k : ℕ) → eqb k 10 ≡ false → asksReply (messageBy k cells id) ≡ false
-  unfolding asksReply messageFrom
+  unfolding asksReply
   none-asks k f = rw f refl
 
   pub asks-cells : (k : ℕ) → asksBy k (cellAt cells 0) (cellAt cells 1) ≡ asksReply (messageBy k cells id)
@@ -69,9 +54,9 @@ module _ (cells : List ℕ) (id : Bytes) where
       go true f = subst (λ (k : ℕ). asksBy k (cellAt cells 0) (cellAt cells 1) ≡ asksReply (messageBy k cells id)) (sym (eqb-true k 10 f)) alive-asks
       go false f = rw f (sym (none-asks k f))
 
-  pub alive-cells : (k : ℕ) → k ≡ 10 → wordsBy (cellAt cells 3) (cellAt cells 4) (cellAt cells 5) ≡ messageBy k cells id .alive .id
-  unfolding messageFrom fieldsFrom fieldBy table
-  alive-cells k e = ap (λ (k : ℕ). messageBy k cells id .alive .id) (sym e)
+  pub alive-cells : (k : ℕ) → k ≡ 10 → wordsBy (cellAt cells 3) (cellAt cells 4) (cellAt cells 5) ≡ replyId (messageBy k cells id)
+  unfolding replyId fieldsOf fieldsFrom fieldBy table
+  alive-cells k e = ap (λ (k : ℕ). replyId (messageBy k cells id)) (sym e)
 
 -- what the lane becomes
 module _ (l : Lane) (n : ℕ) (e : Event) where

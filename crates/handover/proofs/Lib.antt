@@ -10,6 +10,7 @@ pub mod StepForStep
 pub mod SentReceived
 pub mod BenchCalls
 pub mod TailFree
+pub mod ReadBack
 pub mod OneHandover
 pub mod WholeHandover
 pub mod Witnesses

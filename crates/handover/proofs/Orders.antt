@@ -21,13 +21,13 @@ use Rattle.lane.specs.declared.Event.{Event}
 use Rattle.lane.specs.declared.Lane.{Lane}
 use Rattle.lane.specs.declared.Moved.{Moved}
 use Rattle.message.specs.Checked.{Checks}
+use Rattle.message.specs.Messages.{idOf}
 use Rattle.message.specs.declared.checking.Checked.{Checked}
-use Rattle.message.specs.declared.kinds.Message.{Message}
+use Rattle.message.specs.declared.cells.Message.{Message}
 use Rattle.reads.proofs.Theorems.{check-only}
 use Rattle.meant.specs.Notices.{notice}
 use Rattle.meant.proofs.Theorems.{notice-lengths}
-use Rattle.message.specs.Cells.{idOf}
-use Rattle.handover.specs.Ids.{eventOf}
+use Rattle.events.specs.Events.{eventOf, eventSent}
 use Rattle.handover.specs.Receiving.{asksReply, movedBy, Owes, nothing-yet, a-notice, a-reply, no-reply, told, Receives}
 use Rattle.handover.specs.Sending.{Sends}
 use Rattle.handover.specs.declared.receiving.Received.{Received}
@@ -59,10 +59,10 @@ received-stops l e =
     (λ z. (λ o. (rw z refl, order-stop-received l e .0 o .1), λ q. order-stop-received l e .1 (ap (λ (v : Moved). v .refusal) z, q .1)))
     (all.received-refusal l e)
 
-moved-stops : (l : Lane) (n : ℕ) (m : Message) → all.Low n → stops l (movedBy l n m)
+moved-stops : (l : Lane) (n : ℕ) (i : Event) → all.Low n → stops l (movedBy l n i)
 unfolding movedBy stops
-moved-stops l n m h =
-    cases (eqb n 0) (λ e. rw e (received-stops l (eventOf m)))
+moved-stops l n i h =
+    cases (eqb n 0) (λ e. rw e (received-stops l i))
     (λ e. rw e (cases (eqb n 1) (λ f. rw f (λ z. absurd (let x : 0 ≡ 3 = z in omega arith), λ q. clash (sym (q .0)))) (λ f. rw f (ended-stops l n (ends-else n (all.low-moves n h) (eqb-false n 0 e) (eqb-false n 1 f))))))
 
 module _ {l : Lane} {s old new : Bytes} {r : Received} (p : Receives l s old new r) where
@@ -73,7 +73,7 @@ module _ {l : Lane} {s old new : Bytes} {r : Received} (p : Receives l s old new
     where
       yes : length (p .due) ≤ length old → (r .order ≡ StopNow) ↔ (Ends (r .refusal) × (runningUsed (l .state) ≡ true))
       yes h =
-          let v = moved-stops l (p .checked .refusal) (p .checked .message) (all.checked-low (p .checks)) in
+          let v = moved-stops l (p .checked .refusal) (all.event p) (all.checked-low (p .checks)) in
           let e = all.told-refusal p h in
           (λ o. let q = v .0 (sym (all.told-order p h) ∙ o) in (subst Ends (sym e) (q .0), q .1), λ q. all.told-order p h ∙ v .1 (subst Ends e (q .0), q .1))
 
@@ -84,14 +84,14 @@ module _ {l : Lane} {s old new : Bytes} {r : Received} (p : Receives l s old new
 
   -- an order that only an accepted message gives
   given-by : (o : ℕ) → (o ≡ Run) ⊎ (o ≡ Cancel) → (P : Event → Type 0) → ((e : Event) → (received l e .order ≡ o) ↔ P e)
-      → (r .order ≡ o) ↔ ((r .refusal ≡ 0) × P (eventOf (r .message)))
+      → (r .order ≡ o) ↔ ((r .refusal ≡ 0) × P (eventOf (r .message) (p .forecast)))
   unfolding movedBy
   given-by o w P iff = (to, from)
     where
-      from : (r .refusal ≡ 0) × P (eventOf (r .message)) → r .order ≡ o
+      from : (r .refusal ≡ 0) × P (eventOf (r .message) (p .forecast)) → r .order ≡ o
       from (z, q) =
           let a = all.accepts p z in
-          a .order ∙ iff (eventOf (p .checked .message)) .1 (subst (λ (m : Message). P (eventOf m)) (a .message) q)
+          a .order ∙ iff (eventOf (p .checked .message) (p .forecast)) .1 (subst (λ (m : Message). P (eventOf m (p .forecast))) (a .message) q)
 
       not-none : {X : Type 0} → o ≡ 0 → X
       not-none e = absurd (⊎-elim (λ f. let x : _≡_ {A = ℕ} 1 0 = sym f ∙ e in omega arith) (λ f. let x : _≡_ {A = ℕ} 2 0 = sym f ∙ e in omega arith) w)
@@ -102,44 +102,44 @@ module _ {l : Lane} {s old new : Bytes} {r : Received} (p : Receives l s old new
       chart-zero : (e : Event) → received l e .order ≡ o → received l e .refusal ≡ 0
       chart-zero e h = ⊎-elim (λ z. z) (λ z. not-end 9 (sym (ap (λ (v : Moved). v .order) z) ∙ h)) (all.received-refusal l e)
 
-      moved-zero : (n : ℕ) (m : Message) → movedBy l n m .order ≡ o → movedBy l n m .refusal ≡ 0
-      moved-zero n m e =
-          cases (eqb n 0) (λ f. rw f (chart-zero (eventOf m) (rw f at e)))
+      moved-zero : (n : ℕ) (i : Event) → movedBy l n i .order ≡ o → movedBy l n i .refusal ≡ 0
+      moved-zero n i e =
+          cases (eqb n 0) (λ f. rw f (chart-zero i (rw f at e)))
           (λ f. cases (eqb n 1) (λ g. not-none (sym (rw (f, g) at e))) (λ g. not-end n (rw (f, g) at e)))
 
-      yes : length (p .due) ≤ length old → r .order ≡ o → (r .refusal ≡ 0) × P (eventOf (r .message))
+      yes : length (p .due) ≤ length old → r .order ≡ o → (r .refusal ≡ 0) × P (eventOf (r .message) (p .forecast))
       yes h e =
-          let z : r .refusal ≡ 0 = all.told-refusal p h ∙ moved-zero (p .checked .refusal) (p .checked .message) (sym (all.told-order p h) ∙ e) in
+          let z : r .refusal ≡ 0 = all.told-refusal p h ∙ moved-zero (p .checked .refusal) (all.event p) (sym (all.told-order p h) ∙ e) in
           let a = all.accepts p z in
-          (z, subst (λ (m : Message). P (eventOf m)) (sym (a .message)) (iff (eventOf (p .checked .message)) .0 (sym (a .order) ∙ e)))
+          (z, subst (λ (m : Message). P (eventOf m (p .forecast))) (sym (a .message)) (iff (eventOf (p .checked .message) (p .forecast)) .0 (sym (a .order) ∙ e)))
 
-      to : r .order ≡ o → (r .refusal ≡ 0) × P (eventOf (r .message))
+      to : r .order ≡ o → (r .refusal ≡ 0) × P (eventOf (r .message) (p .forecast))
       to e = ⊎-elim (λ h. yes h e) (λ h. not-none (sym e ∙ ap (λ (r : Received). r .order) (all.fits-not p h))) (all.room p)
 
   -- "A received StartTransport in Both with the offered id orders the belt to run (1)"
-  pub receive-order-run : (r .order ≡ Run) ↔ ((r .refusal ≡ 0) × StartsOwn l (eventOf (r .message)) U)
+  pub receive-order-run : (r .order ≡ Run) ↔ ((r .refusal ≡ 0) × StartsOwn l (eventOf (r .message) (p .forecast)) U)
   receive-order-run = given-by Run (inl refl) (λ e. StartsOwn l e U) (order-run-received l)
 
   -- "with another id, or in Ready, it orders cancel (2)"
-  pub receive-order-cancel : (r .order ≡ Cancel) ↔ ((r .refusal ≡ 0) × StartsOther l (eventOf (r .message)) U)
+  pub receive-order-cancel : (r .order ≡ Cancel) ↔ ((r .refusal ≡ 0) × StartsOther l (eventOf (r .message) (p .forecast)) U)
   receive-order-cancel = given-by Cancel (inr refl) (λ e. StartsOther l e U) (order-cancel-received l)
 
 -- sending: run with an accepted StartTransport, and no other order
 module _ {l : Lane} {m : Message} {texts old new : Bytes} {r : Sent} (p : Sends l m texts old new r) where
-  pub send-order-run : (r .order ≡ Run) ↔ ((r .refusal ≡ 0) × StartsOwn l (eventOf m) D)
+  pub send-order-run : (r .order ≡ Run) ↔ ((r .refusal ≡ 0) × StartsOwn l (eventSent m texts) D)
   send-order-run = (to (all.decides p), from (all.decides p))
     where
-      to : all.Decides l m texts old new r → r .order ≡ Run → (r .refusal ≡ 0) × StartsOwn l (eventOf m) D
+      to : all.Decides l m texts old new r → r .order ≡ Run → (r .refusal ≡ 0) × StartsOwn l (eventSent m texts) D
       to (all.refused-by n e f) o = absurd (let x : 0 ≡ 1 = sym (ap (λ (r : Sent). r .order) e) ∙ o in omega arith)
       to (all.may-not a n e f) o = absurd (let x : 0 ≡ 1 = sym (ap (λ (r : Sent). r .order) e) ∙ o in omega arith)
       to (all.lacks-room a b h e f) o = absurd (let x : 0 ≡ 1 = sym (ap (λ (r : Sent). r .order) e) ∙ o in omega arith)
-      to (all.goes a b h e f) o = (ap (λ (r : Sent). r .refusal) e, order-run-sent l (eventOf m) .0 (sym (ap (λ (r : Sent). r .order) e) ∙ o))
+      to (all.goes a b h e f) o = (ap (λ (r : Sent). r .refusal) e, order-run-sent l (eventSent m texts) .0 (sym (ap (λ (r : Sent). r .order) e) ∙ o))
 
-      from : all.Decides l m texts old new r → (r .refusal ≡ 0) × StartsOwn l (eventOf m) D → r .order ≡ Run
+      from : all.Decides l m texts old new r → (r .refusal ≡ 0) × StartsOwn l (eventSent m texts) D → r .order ≡ Run
       from (all.refused-by n e f) (z, q) = absurd (n (sym (ap (λ (r : Sent). r .refusal) e) ∙ z))
       from (all.may-not a n e f) (z, q) = absurd (let x : 8 ≡ 0 = sym (ap (λ (r : Sent). r .refusal) e) ∙ z in omega arith)
       from (all.lacks-room a b h e f) (z, q) = absurd (let x : 7 ≡ 0 = sym (ap (λ (r : Sent). r .refusal) e) ∙ z in omega arith)
-      from (all.goes a b h e f) (z, q) = ap (λ (r : Sent). r .order) e ∙ order-run-sent l (eventOf m) .1 q
+      from (all.goes a b h e f) (z, q) = ap (λ (r : Sent). r .order) e ∙ order-run-sent l (eventSent m texts) .1 q
 
   pub send-order-else : (r .order ≡ Run) ⊎ (r .order ≡ NoOrder)
   send-order-else = go (all.decides p)
@@ -148,20 +148,20 @@ module _ {l : Lane} {m : Message} {texts old new : Bytes} {r : Sent} (p : Sends 
       go (all.refused-by n e f) = inr (ap (λ (r : Sent). r .order) e)
       go (all.may-not a n e f) = inr (ap (λ (r : Sent). r .order) e)
       go (all.lacks-room a b h e f) = inr (ap (λ (r : Sent). r .order) e)
-      go (all.goes a b h e f) = let o = ap (λ (r : Sent). r .order) e in ⊎-elim (λ q. inl (o ∙ q)) (λ q. inr (o ∙ q)) (order-sent-else l (eventOf m))
+      go (all.goes a b h e f) = let o = ap (λ (r : Sent). r .order) e in ⊎-elim (λ q. inl (o ∙ q)) (λ q. inr (o ∙ q)) (order-sent-else l (eventSent m texts))
 
 -- an input whose message passed `check`: what the chart makes of it is told, where what is owed fits
 module _ {l : Lane} {s old new : Bytes} {r : Received} (p : Receives l s old new r) {c : Checked} (h : Checks s c) (z : c .refusal ≡ 0) where
   same-checked : p .checked ≡ c
   same-checked = check-only (p .checks) h
 
-  moved-is : (v : Moved) → received l (eventOf (c .message)) ≡ v → all.moved p ≡ v
-  moved-is v e = ap (λ (c : Checked). movedBy l (c .refusal) (c .message)) same-checked ∙ all.moved-on l (c .refusal) (c .message) z ∙ e
+  moved-is : (v : Moved) → received l (eventOf (c .message) (p .forecast)) ≡ v → all.moved p ≡ v
+  moved-is v e = ap (λ (c : Checked). movedBy l (c .refusal) (eventOf (c .message) (p .forecast))) same-checked ∙ all.moved-on l (c .refusal) (eventOf (c .message) (p .forecast)) z ∙ e
 
-  owed : (v : Moved) → received l (eventOf (c .message)) ≡ v → Owes s (c .message) (v .refusal) (p .due)
+  owed : (v : Moved) → received l (eventOf (c .message) (p .forecast)) ≡ v → Owes s (c .message) (v .refusal) (p .due)
   owed v e = subst (λ (v : Moved). Owes s (c .message) (v .refusal) (p .due)) (moved-is v e) (subst (λ (x : Checked). Owes s (x .message) (all.moved p .refusal) (p .due)) same-checked (p .owes))
 
-  told-as : (v : Moved) → received l (eventOf (c .message)) ≡ v → length (p .due) ≤ length old → r ≡ told c v (length (p .due))
+  told-as : (v : Moved) → received l (eventOf (c .message) (p .forecast)) ≡ v → length (p .due) ≤ length old → r ≡ told c v (length (p .due))
   told-as v e f = all.fits p f ∙ ap (λ (x : Checked). told x (all.moved p) (length (p .due))) same-checked ∙ ap (λ (v : Moved). told c v (length (p .due))) (moved-is v e)
 
   -- nothing is owed for a message that is no CheckAlive
@@ -178,7 +178,7 @@ module _ {l : Lane} {s old new : Bytes} {r : Received} (p : Receives l s old new
   owes-notice n (a-reply y a b) = absurd (omega arith)
   owes-notice n (no-reply y a f) = absurd (omega arith)
 
-  start-told : (order : ℕ) → c .message .kind ≡ StartTransport → received l (eventOf (c .message)) ≡ started l (idOf (c .message)) order → r ≡ told c (started l (idOf (c .message)) order) 0
+  start-told : (order : ℕ) → c .message .kind ≡ StartTransport → received l (eventOf (c .message) (p .forecast)) ≡ started l (idOf (c .message)) order → r ≡ told c (started l (idOf (c .message)) order) 0
   start-told order k e =
       let d : p .due ≡ [] = owes-none (owed (started l (idOf (c .message)) order) e) (λ x. let y : _≡_ {A = ℕ} 7 10 = sym k ∙ x in omega arith) in
       told-as (started l (idOf (c .message)) order) e (let y = ap length d in omega arith) ∙ ap (λ (b : Bytes). told c (started l (idOf (c .message)) order) (length b)) d
@@ -186,18 +186,18 @@ module _ {l : Lane} {s old new : Bytes} {r : Received} (p : Receives l s old new
   -- T2.L6
   pub receive-start-run : c .message .kind ≡ StartTransport → l .side ≡ U → l .state ≡ Both → l .offered ≡ idOf (c .message)
       → r ≡ told c (started l (idOf (c .message)) Run) 0
-  receive-start-run k es et ei = start-told Run k (start-run l (eventOf (c .message)) k es et ei)
+  receive-start-run k es et ei = start-told Run k (start-run l (eventOf (c .message) (p .forecast)) k es et ei)
 
   -- T2.L5
   pub receive-start-cancel : c .message .kind ≡ StartTransport → l .side ≡ U → (l .state ≡ Ready) ⊎ ((l .state ≡ Both) × (l .offered ≡ idOf (c .message) → ⊥))
       → r ≡ told c (started l (idOf (c .message)) Cancel) 0
-  receive-start-cancel k es w = start-told Cancel k (⊎-elim (start-cancel-ready l (eventOf (c .message)) k es) (λ q. start-cancel-other l (eventOf (c .message)) k es (q .0) (q .1)) w)
+  receive-start-cancel k es w = start-told Cancel k (⊎-elim (start-cancel-ready l (eventOf (c .message) (p .forecast)) k es) (λ q. start-cancel-other l (eventOf (c .message) (p .forecast)) k es (q .0) (q .1)) w)
 
   -- T2.L7: the Notification of 9 has 99 bytes
   pub receive-foreign-stop : (c .message .kind ≡ StopTransport) ⊎ (c .message .kind ≡ TransportFinished) → (l .running ≡ idOf (c .message) → ⊥) → 99 ≤ length old
       → r ≡ told c (ended l 9) 99
   receive-foreign-stop w n f =
-      let e = foreign-stop l (eventOf (c .message)) w n in
+      let e = foreign-stop l (eventOf (c .message) (p .forecast)) w n in
       let d : p .due ≡ notice 9 = owes-notice 7 (owed (ended l 9) e) in
       let y : length (p .due) ≡ 99 = ap length d ∙ notice-lengths .5 in
       told-as (ended l 9) e (omega arith) ∙ ap (told c (ended l 9)) y

@@ -8,29 +8,49 @@ use lib.ListN.{length, drop, replicate, length-replicate}
 use lib.Dec.{eqb, leb}
 use borrow.Author.Tests.{ne-eqb, eq-eqb, le-leb}
 use Rattle.lane.specs.Record.{noId}
+use Rattle.lane.specs.declared.Event.{Event}
 use Rattle.lane.specs.declared.Lane.{Lane}
 use Rattle.lane.specs.declared.Moved.{Moved}
-use Rattle.grammar.specs.Bytes.{Bytes}
+use Rattle.grammar.specs.Bytes.{Bytes, text}
 use Rattle.value.specs.declared.text.Words.{Words}
-use Rattle.message.specs.Cells.{NUMBERS, cellAt, wordsBy, messageBy}
+use Rattle.message.specs.Cells.{NUMBERS, cellAt, wordsBy}
 use Rattle.message.specs.Checked.{Checks}
-use Rattle.message.specs.Fields.{messageFrom, blank}
+use Rattle.message.proofs.CalledLaws.{shortNamed}
+use Rattle.table.specs.Table.{table}
+use Rattle.table.specs.Theorems.{each-rows}
+use Rattle.message.specs.Messages.{messageBy, messageFrom, blank}
 use Rattle.message.specs.declared.checking.Checked.{Checked}
-use Rattle.message.specs.declared.kinds.Message.{Message}
+use Rattle.message.specs.declared.cells.Message.{Message}
 use Rattle.meant.specs.Notices.{notice}
-use Rattle.structs.proofs.KindLaws.{blank-is, blank-told}
+use Rattle.reads.proofs.Theorems.{id-handed}
 use Rattle.reads.specs.Whole.{handedBy, ChecksInto}
 use Rattle.reads.specs.declared.checking.Found.{Found}
 use Rattle.writes.specs.declared.messages.Written.{Written as Count}
 use Rattle.written_back.specs.First.{First}
 use Rattle.written_back.specs.Replies.{Replies}
 use Rattle.written_back.proofs.Theorems.{reply-written}
-use Rattle.handover.specs.Ids.{eventOf}
-use Rattle.handover.specs.Receiving.{asksReply, movedFor, movedBy, Owes, nothing-yet, a-notice, a-reply, no-reply, noRoom, told, answerOf, Receives, Sound, Written, Answers, asksBy, noReceipt, refusedBy, toldBy, Finishes, lacks-room, refuses, tells, ReceivesInto}
+use Rattle.events.specs.Events.{Carried, eventOf, forecastId, Carries}
+use Rattle.events.specs.Says.{Sound, eventWith, Got}
+use Rattle.events.proofs.NameLaws.{forecast-any}
+use Rattle.handover.specs.Receiving.{asksReply, replyId, movedFor, movedBy, Owes, nothing-yet, a-notice, a-reply, no-reply, noRoom, told, answerOf, Receives, Written, Answers, asksBy, noReceipt, refusedBy, toldBy, Finishes, lacks-room, refuses, tells, ReceivesInto}
 use Rattle.handover.specs.declared.receiving.Receipt.{Receipt}
 use Rattle.handover.specs.declared.receiving.Received.{Received}
 use Rattle.handover.proofs.IdLaws.{asks-alive, asks-cells, alive-cells}
-use Rattle.handover.proofs.SoundLaws.{check-sound}
+use Rattle.handover.proofs.SoundLaws.{check-sound, Short}
+
+-- the Id of a CheckAlive
+pub id-sound : {s : Bytes} {c : Checked} → Checks s c → Sound s (replyId (c .message))
+unfolding replyId table
+id-sound x = check-sound "Id" (record { each = λ k. each-rows (shortNamed (text "Id")) table k refl }) x
+
+-- the ForecastId of a MachineReady or a BoardForecast
+pub forecast-sound : {s : Bytes} {c : Checked} → Checks s c → Sound s (forecastId (c .message))
+unfolding forecastId table
+forecast-sound x = check-sound "ForecastId" (record { each = λ k. each-rows (shortNamed (text "ForecastId")) table k refl }) x
+
+-- whatever stands for the id of cells
+pub forecast-cells : {s : Bytes} {cells : List ℕ} {f : Found} → ChecksInto s cells f → (i : Bytes) → Sound s (forecastId (messageBy (f .kind) cells i))
+forecast-cells {s} {cells} {f} x i = subst (Sound s) (forecast-any (f .kind) cells (f .id) i) (forecast-sound (x .checks))
 
 -- nothing is written anywhere
 first-nothing : (old : Bytes) → First [] old old (record { refusal = 0; count = 0 })
@@ -43,7 +63,7 @@ module _ (s : Bytes) (m : Message) (n : ℕ) where
   pub wrote-notice : {old new : Bytes} {r : Count} → (n ≡ 1 → ⊥) → (n ≡ 0 → ⊥) → First (notice n) old new r → Written s m n old new r
   wrote-notice a b f = record { due = notice n; owes = a-notice b a refl; first = f }
 
-  pub wrote-reply : {old new : Bytes} {r : Count} {q : Bool} → n ≡ 0 → q ≡ asksReply m → q ≡ true → Sound s (m .alive .id) → Replies s (m .alive .id) old new r → Written s m n old new r
+  pub wrote-reply : {old new : Bytes} {r : Count} {q : Bool} → n ≡ 0 → q ≡ asksReply m → q ≡ true → Sound s (replyId m) → Replies s (replyId m) old new r → Written s m n old new r
   wrote-reply e f g h x = let (b, y, z) = reply-written h x in record { due = b; owes = a-reply e (sym f ∙ g) y; first = z }
 
   pub wrote-no-reply : (old : Bytes) {q : Bool} → n ≡ 0 → q ≡ asksReply m → q ≡ false → Written s m n old old (record { refusal = 0; count = 0 })
@@ -64,8 +84,8 @@ pub room-lacks : (l : Lane) {b : Message} → b ≡ blank 0 → record { refusal
 room-lacks l e = ap (λ (b : Message). record { refusal = 7; lane = l; order = 0; used = 0; written = 0; place = 0; message = b }) e
 
 -- the two answers, by whether it fits
-module _ (l : Lane) {s old new : Bytes} {c : Checked} {v : Moved} {w : Count} (h : Checks s c) (e : v ≡ movedBy l (c .refusal) (c .message)) (x : Written s (c .message) (v .refusal) old new w) where
-  owed : Owes s (c .message) (movedBy l (c .refusal) (c .message) .refusal) (x .due)
+module _ (l : Lane) {s old new : Bytes} {c : Checked} {v : Moved} {w : Count} (h : Checks s c) {F : Carried} (y : Carries s (forecastId (c .message)) F) (e : v ≡ movedBy l (c .refusal) (eventOf (c .message) F)) (x : Written s (c .message) (v .refusal) old new w) where
+  owed : Owes s (c .message) (movedBy l (c .refusal) (eventOf (c .message) F) .refusal) (x .due)
   owed = subst (λ (v : Moved). Owes s (c .message) (v .refusal) (x .due)) e (x .owes)
 
   fits : (z : Bool) → leb (length (x .due)) (length old) ≡ z → (w .refusal ≡ cond z 0 7) × (w .count ≡ cond z (length (x .due)) 0)
@@ -74,17 +94,17 @@ module _ (l : Lane) {s old new : Bytes} {c : Checked} {v : Moved} {w : Count} (h
 
   pub is-no-room : {r : Received} → (w .refusal ≡ 0 → ⊥) → r ≡ noRoom l → Receives l s old new r
   unfolding answerOf
-  is-no-room n f = record { checked = c; checks = h; due = x .due; owes = owed; answer = f ∙ go (leb (length (x .due)) (length old)) refl; buffer = x .first .buffer }
+  is-no-room n f = record { checked = c; checks = h; forecast = F; carries = y; due = x .due; owes = owed; answer = f ∙ go (leb (length (x .due)) (length old)) refl; buffer = x .first .buffer }
     where
-      go : (z : Bool) → leb (length (x .due)) (length old) ≡ z → noRoom l ≡ answerOf l c (x .due) (length old)
+      go : (z : Bool) → leb (length (x .due)) (length old) ≡ z → noRoom l ≡ answerOf l c (eventOf (c .message) F) (x .due) (length old)
       go true g = absurd (n (fits true g .0))
       go false g = rw g refl
 
   pub is-told : {r : Received} → w .refusal ≡ 0 → r ≡ told c v (w .count) → Receives l s old new r
   unfolding answerOf
-  is-told z f = record { checked = c; checks = h; due = x .due; owes = owed; answer = f ∙ go (leb (length (x .due)) (length old)) refl; buffer = x .first .buffer }
+  is-told z f = record { checked = c; checks = h; forecast = F; carries = y; due = x .due; owes = owed; answer = f ∙ go (leb (length (x .due)) (length old)) refl; buffer = x .first .buffer }
     where
-      go : (b : Bool) → leb (length (x .due)) (length old) ≡ b → told c v (w .count) ≡ answerOf l c (x .due) (length old)
+      go : (b : Bool) → leb (length (x .due)) (length old) ≡ b → told c v (w .count) ≡ answerOf l c (eventOf (c .message) F) (x .due) (length old)
       go true g = rw (g, ← e) (ap (told c v) (fits true g .1))
       go false g = absurd (let y : 7 ≡ 0 = sym (fits false g .0) ∙ z in omega arith)
 
@@ -109,23 +129,22 @@ finish-long {before = before} (refuses z n e h) = ap length e ∙ length-replica
 finish-long (tells z y e h) = ap length e
 
 -- the three answers with cells
-module _ (l : Lane) {s : Bytes} {cells : List ℕ} {f : Found} {v : Moved} {asks : Bool} {alive : Words} (x : ChecksInto s cells f) (ev : v ≡ movedFor l (f .refusal) (record { kind = f .kind; id = f .id })) (ea : asks ≡ asksBy (f .kind) (cellAt cells 0) (cellAt cells 1)) (ei : alive ≡ wordsBy (cellAt cells 3) (cellAt cells 4) (cellAt cells 5)) where
+module _ (l : Lane) {s : Bytes} {cells : List ℕ} {f : Found} {e : Event} {v : Moved} {asks : Bool} {alive : Words} (x : ChecksInto s cells f) (g : Got s (f .kind) cells (f .id) e) (ev : v ≡ movedFor l (f .refusal) e) (ea : asks ≡ asksBy (f .kind) (cellAt cells 0) (cellAt cells 1)) (ei : alive ≡ wordsBy (cellAt cells 3) (cellAt cells 4) (cellAt cells 5)) where
   abbrev message : Message
   message = messageBy (f .kind) cells (f .id)
 
-  same-id : asks ≡ true → alive ≡ message .alive .id
+  same-id : asks ≡ true → alive ≡ replyId message
   same-id t = ei ∙ alive-cells cells (f .id) (f .kind) (asks-alive (f .kind) (cellAt cells 0) (cellAt cells 1) (sym ea ∙ t))
 
   pub sound-id : asks ≡ true → Sound s alive
-  sound-id t = subst (Sound s) (sym (same-id t)) (check-sound (x .checks))
+  sound-id t = subst (Sound s) (sym (same-id t)) (id-sound (x .checks))
 
-  event : eventOf message ≡ record { kind = f .kind; id = f .id }
-  unfolding messageFrom
-  event = ap (λ (id : Bytes). record { kind = f .kind; id = id }) (sym (x .told .named))
+  carried : Carries s (forecastId message) (g .forecast)
+  carried = g .carries (f .id)
 
-  moved : v ≡ movedBy l (f .refusal) message
+  moved : v ≡ movedBy l (f .refusal) (eventOf message (g .forecast))
   unfolding movedBy
-  moved = ev ∙ ap (movedFor l (f .refusal)) (sym event)
+  moved = ev ∙ ap (movedFor l (f .refusal)) (g .is ∙ ap (λ (id : Bytes). eventWith (f .kind) id (g .forecast)) (id-handed (x .checks)))
 
   module _ {old new : Bytes} {w : Count} (y : Answers s (v .refusal) asks alive old new w) where
     wrote : Written s message (v .refusal) old new w
@@ -134,16 +153,16 @@ module _ (l : Lane) {s : Bytes} {cells : List ℕ} {f : Found} {v : Moved} {asks
     into-no-room : {after : List ℕ} {r : Receipt} → (w .refusal ≡ 0 → ⊥) → after ≡ replicate NUMBERS 0 → r ≡ noReceipt l → ReceivesInto l s old new after r
     into-no-room {after} {r} n z e =
         subst (λ (r : Receipt). ReceivesInto l s old new after r) (sym e) (subst (λ (c : List ℕ). ReceivesInto l s old new c (noReceipt l)) (sym z)
-        (record { receives = is-no-room l (x .checks) moved wrote n (room-lacks l (blank-is 0 noId)); told-so = blank-told 0 }))
+        (is-no-room l (x .checks) carried moved wrote n (room-lacks l refl)))
 
     into-refused : {after : List ℕ} {r : Receipt} → w .refusal ≡ 0 → (v .refusal ≡ 0 → ⊥) → after ≡ replicate NUMBERS 0 → r ≡ refusedBy f v (w .count) → ReceivesInto l s old new after r
     into-refused {after} {r} h n z e =
         subst (λ (r : Receipt). ReceivesInto l s old new after r) (sym e) (subst (λ (c : List ℕ). ReceivesInto l s old new c (refusedBy f v (w .count))) (sym z)
-        (record { receives = is-told l (x .checks) moved wrote h (told-refused (handedBy f cells) v (w .count) n (blank-is 0 noId)); told-so = blank-told 0 }))
+        (is-told l (x .checks) carried moved wrote h (told-refused (handedBy f cells) v (w .count) n refl)))
 
     into-told : {r : Receipt} → w .refusal ≡ 0 → v .refusal ≡ 0 → r ≡ toldBy f v (w .count) → ReceivesInto l s old new cells r
     into-told {r} h z e =
-        subst (λ (r : Receipt). ReceivesInto l s old new cells r) (sym e) (record { receives = is-told l (x .checks) moved wrote h (told-accepted (handedBy f cells) v (w .count) z); told-so = x .told })
+        subst (λ (r : Receipt). ReceivesInto l s old new cells r) (sym e) (is-told l (x .checks) carried moved wrote h (told-accepted (handedBy f cells) v (w .count) z))
 
     zeros-so : {after : List ℕ} → after ≡ replicate (length cells) 0 → after ≡ replicate NUMBERS 0
     zeros-so e = e ∙ ap (λ (n : ℕ). replicate n 0) (x .long)
@@ -152,9 +171,3 @@ module _ (l : Lane) {s : Bytes} {cells : List ℕ} {f : Found} {v : Moved} {asks
     into-all (lacks-room n e h) = into-no-room n (zeros-so e) h
     into-all (refuses z n e h) = into-refused z n (zeros-so e) h
     into-all {after} {r} (tells z y e h) = subst (λ (c : List ℕ). ReceivesInto l s old new c r) (sym e) (into-told z y h)
-
--- the struct that the cells are
-pub received-as : {l : Lane} {s old new : Bytes} {cells : List ℕ} {r : Receipt} {m : Message} → ReceivesInto l s old new cells r → m ≡ messageBy (r .kind) cells (r .id)
-    → Receives l s old new (record { refusal = r .refusal; lane = r .lane; order = r .order; used = r .used; written = r .written; place = r .place; message = m })
-received-as {l} {s} {old} {new} {cells} {r} x e =
-    subst (λ (m : Message). Receives l s old new (record { refusal = r .refusal; lane = r .lane; order = r .order; used = r .used; written = r .written; place = r .place; message = m })) (sym e) (x .receives)

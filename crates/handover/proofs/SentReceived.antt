@@ -18,20 +18,21 @@ use Rattle.model.specs.Cuts.{piece-behind}
 use Rattle.model.specs.Theorems.{one-reading, answers-only}
 use Rattle.lane.specs.declared.Lane.{Lane}
 use Rattle.value.specs.declared.text.Words.{Words}
-use Rattle.table.specs.Table.{isKind, rowsOf}
-use Rattle.table.specs.Says.{childOf, saidOf}
-use Rattle.message.specs.Fields.{messageFrom, fieldsOf}
+use Rattle.table.specs.Table.{Row, isKind, rowsOf}
+use Rattle.table.specs.Theorems.{rows-table}
+use Rattle.table.specs.Says.{childOf, saidOf, valuesOf}
 use Rattle.message.specs.Checked.{Checks, ends, more, malformed, too-long, messageOf, placesIn, checkedAs}
 use Rattle.message.specs.Handed.{HandedOut}
+use Rattle.message.specs.Messages.{messageFrom, fieldsOf}
 use Rattle.message.specs.declared.checking.Checked.{Checked}
-use Rattle.message.specs.declared.kinds.Message.{Message}
+use Rattle.message.specs.declared.cells.Message.{Message}
 use Rattle.reads.proofs.Theorems.{handed-out}
 use Rattle.meant.specs.Meant.{meantOf, refusalOf}
 use Rattle.meant.specs.Written.{writtenOf}
 use Rattle.meant.proofs.Theorems.{reads-back, written-small}
 use Rattle.written_back.specs.Replies.{SameId}
 use Rattle.written_back.proofs.Theorems.{reply-reads-back}
-use Rattle.handover.specs.Receiving.{asksReply, Owes, nothing-yet, a-notice, a-reply, no-reply, Receives}
+use Rattle.handover.specs.Receiving.{asksReply, replyId, Owes, nothing-yet, a-notice, a-reply, no-reply, Receives}
 use Rattle.handover.specs.Sending.{Sends}
 use Rattle.handover.specs.declared.receiving.Received.{Received}
 use Rattle.handover.specs.declared.sending.Sent.{Sent}
@@ -97,6 +98,17 @@ written-is-read m texts i z rest {c} x =
     let q : t ≡ h .reading = h .one t (subst (λ (b : Bytes). IsMessage b t) (sym w) a) in
     record { refusal = f .refusal ∙ n; start = f .start; end = f .end; kind = f .kind ∙ k; handed = h; values = sym (ap (λ (t : Tree). saidOf t .values) q) ∙ v }
 
+-- the kind and the values of what was read
+pub read-kind : {s : Bytes} (m : Message) (texts : Bytes) {n : ℕ} {c : Checked} (a : ReadAs s m texts n c) → saidOf (a .handed .reading) .kind ≡ m .kind
+unfolding messageFrom
+read-kind m texts a = sym (ap (λ (m : Message). m .kind) (a .handed .fields)) ∙ a .kind
+
+pub read-values : {s : Bytes} (m : Message) (texts : Bytes) {n : ℕ} {c : Checked} (a : ReadAs s m texts n c) → valuesOf (rowsOf (m .kind)) (childOf (a .handed .reading)) ≡ meantOf (rowsOf (m .kind)) (fieldsOf m) texts
+read-values m texts a =
+    let t = a .handed .reading in
+    subst (λ (k : ℕ). valuesOf (rowsOf k) (childOf t) ≡ meantOf (rowsOf (m .kind)) (fieldsOf m) texts) (read-kind m texts a)
+    (sym (ap (λ (l : List Row). valuesOf l (childOf t)) (rows-table (saidOf t .kind) (childOf t))) ∙ a .values)
+
 -- what `send` put first in a buffer
 pub sent-is-received : {l : Lane} {m : Message} {texts old new : Bytes} {r : Sent} → Sends l m texts old new r → r .refusal ≡ 0
     → (take (r .written) new ≡ writtenOf m texts)
@@ -112,11 +124,11 @@ sent-is-received {l} {m} {texts} {old} {new} {r} p z = go (all.decides p)
     go (all.goes a b h e f) =
         let n : r .written ≡ length (writtenOf m texts) = ap (λ (r : Sent). r .written) e in
         let w : take (r .written) new ≡ writtenOf m texts = ap (λ (k : ℕ). take k new) n ∙ ap (take (length (writtenOf m texts))) f ∙ take-append-seam (writtenOf m texts) (drop (length (writtenOf m texts)) old) in
-        (w, λ rest c x. subst (λ (k : ℕ). ReadAs (take (r .written) new ++ rest) m texts k c) (sym n) (subst (λ (b : Bytes). ReadAs (b ++ rest) m texts (length (writtenOf m texts)) c) (sym w) (written-is-read m texts (accepted-kind l m b) a rest (subst (λ (b : Bytes). Checks (b ++ rest) c) w x))))
+        (w, λ rest c x. subst (λ (k : ℕ). ReadAs (take (r .written) new ++ rest) m texts k c) (sym n) (subst (λ (b : Bytes). ReadAs (b ++ rest) m texts (length (writtenOf m texts)) c) (sym w) (written-is-read m texts (accepted-kind l m texts b) a rest (subst (λ (b : Bytes). Checks (b ++ rest) c) w x))))
 
 -- T2.L10: the reply that receiving wrote reads as a CheckAlive of Type 2 with the same Id, or no Id
 pub receive-reply : {l : Lane} {s old new : Bytes} {r : Received} → Receives l s old new r → r .refusal ≡ 0 → asksReply (r .message) ≡ true
-    → (t : Tree) × IsMessage (take (r .written) new) t × (saidOf t .kind ≡ 10) × (saidOf t .refusal ≡ 0) × SameId s (r .message .alive .id) (saidOf t .values)
+    → (t : Tree) × IsMessage (take (r .written) new) t × (saidOf t .kind ≡ 10) × (saidOf t .refusal ≡ 0) × SameId s (replyId (r .message)) (saidOf t .values)
 receive-reply {l} {s} {old} {new} {r} p z q = go (p .owes)
   where
     a : all.Accepts p
@@ -131,10 +143,10 @@ receive-reply {l} {s} {old} {new} {r} p z q = go (p .owes)
     first : take (r .written) new ≡ p .due
     first = ap (λ (k : ℕ). take k new) (all.told-written p (all.accepts p z .fitted)) ∙ ap (take (length (p .due))) (p .buffer ∙ rw (le-leb (length (p .due)) (length old) (all.accepts p z .fitted)) refl) ∙ take-append-seam (p .due) (drop (length (p .due)) old)
 
-    go : Owes s (p .checked .message) (all.moved p .refusal) (p .due) → (t : Tree) × IsMessage (take (r .written) new) t × (saidOf t .kind ≡ 10) × (saidOf t .refusal ≡ 0) × SameId s (r .message .alive .id) (saidOf t .values)
+    go : Owes s (p .checked .message) (all.moved p .refusal) (p .due) → (t : Tree) × IsMessage (take (r .written) new) t × (saidOf t .kind ≡ 10) × (saidOf t .refusal ≡ 0) × SameId s (replyId (r .message)) (saidOf t .values)
     go (nothing-yet e f) = absurd (let x : 1 ≡ 0 = sym e ∙ zero-moved in omega arith)
     go (a-notice y w f) = absurd (y zero-moved)
     go (a-reply y w b) =
         let (t, i, k, n, v) = reply-reads-back b in
-        (t, subst (λ (b : Bytes). IsMessage b t) (sym first) i, k, n, subst (λ (m : Message). SameId s (m .alive .id) (saidOf t .values)) (sym (all.accepts p z .message)) v)
+        (t, subst (λ (b : Bytes). IsMessage b t) (sym first) i, k, n, subst (λ (m : Message). SameId s (replyId m) (saidOf t .values)) (sym (all.accepts p z .message)) v)
     go (no-reply y w f) = clash (sym asks ∙ w)

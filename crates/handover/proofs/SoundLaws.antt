@@ -1,98 +1,94 @@
--- The Id of a CheckAlive that `check` hands out is a text of at most 80 bytes.
+-- A text 80 that `check` hands out reads as at most 80 bytes.
 use mathlib.Core.Path.{_≡_, refl, sym, ap, subst, _∙_}
-use mathlib.Core.List.{List, [], _∷_}
+use mathlib.Core.List.{List}
 use mathlib.Core.Bool.{Bool, true, false, cond}
-use Prim.Native.Nat.{ℕ, zero, suc, _+_, _-_, _≤_}
+use Prim.Native.Nat.{ℕ, _+_, _-_, _≤_}
+use Prim.Native.String.{String}
 use native.Mathlib.Omega.{arith}
 use lib.ListN.{length, take, drop}
-use lib.Dec.{eqb, leb}
-use borrow.Author.Tests.{eqb-true, eqb-false, eq-eqb, ne-eqb, leb-true}
-use Rattle.grammar.specs.Bytes.{Bytes, text, same}
-use Rattle.grammar.specs.Tree.{Pair, Tree, tree}
+use lib.Dec.{eqb}
+use borrow.Author.Tests.{eqb-true}
+use Rattle.grammar.specs.Bytes.{Bytes, text}
+use Rattle.grammar.specs.Tree.{Tree}
 use Rattle.grammar.specs.Message.{Message as IsMessage, readLayout}
 use Rattle.value.specs.Text.{Text}
 use Rattle.value.specs.declared.text.Span.{Span}
 use Rattle.value.specs.declared.text.Words.{Words}
 use Rattle.value.specs.declared.text.Words.the-variants.{Absent as NoWords, Present as IsWords}
-use Rattle.table.specs.Table.{words, Row, table, rowsOf}
-use Rattle.table.specs.Theorems.{rows-table}
-use Rattle.table.specs.Says.{judged, given, tried, refusalIn, first, refusalOf, childOf, saidOf}
-use Rattle.message.specs.Fields.{fieldFor, fieldsIn, messageFrom, aliveFrom, only, blank}
-use Rattle.message.specs.Checked.{Checks, ends, more, malformed, too-long, checkedAs, unread, messageOf}
-use Rattle.message.specs.Handed.{Has, has-here, has-later, attributesOf, ReadsAt, HandedOut}
+use Rattle.table.specs.Table.{Row, table, rowsOf}
+use Rattle.table.specs.Theorems.{rows-table, each-rows}
+use Rattle.table.specs.Says.{refusalOf, childOf, saidOf}
+use Rattle.message.specs.Fields.{Field, theWords, fieldsIn}
+use Rattle.message.specs.Checked.{Checks, ends, more, malformed, too-long, placesIn, messageOf, checkedAs}
+use Rattle.message.specs.Handed.{Has, attributesOf, ReadsAt, HandedOut}
+use Rattle.message.specs.Messages.{messageFrom, blank, calledIn, called}
 use Rattle.message.specs.declared.checking.Checked.{Checked}
-use Rattle.message.specs.declared.kinds.Message.{Message}
+use Rattle.message.specs.declared.cells.Message.{Message}
+use Rattle.message.proofs.BackLaws.{handed-back}
+use Rattle.message.proofs.CalledLaws.{called-place, shortNamed, short-kept, none-called}
 use Rattle.reads.proofs.Theorems.{handed-out}
-use Rattle.handover.specs.Receiving.{Sound}
+use Rattle.events.specs.Says.{Sound}
+
+not-there : {X : Type 0} {p : Span} → NoWords ≡ IsWords p → X
+not-there e = absurd (let z : _≡_ {A = ℕ} 0 1 = cc in omega arith)
 
 no-place : (s : Bytes) {w : Words} → w ≡ NoWords → Sound s w
 no-place s e p f = absurd (let z : _≡_ {A = ℕ} 0 1 = cc in omega arith)
 
--- an attribute that is there is judged by its value
-given-has : (optional : Bool) {n v : Bytes} {l : List Pair} → Has n v l → given (words 80) optional n l ≡ judged (words 80) v
-given-has o (has-here f e) = rw (f, e) refl
-given-has o (has-later f h) = rw f (given-has o h)
+-- every row of the name is a text 80
+pub record Short (n : String) : Type 0 where
+  pub each : (k : ℕ) → shortNamed (text n) (rowsOf k) ≡ true
 
--- a text that is not refused keeps its limit
-kept-limit : (v : Bytes) → refusalIn (judged (words 80) v) ≡ 0 → length v ≤ 80
-unfolding judged
-kept-limit v e = go (leb (length v) 80) refl
-  where
-    go : (z : Bool) → leb (length v) 80 ≡ z → length v ≤ 80
-    go true f = leb-true (length v) 80 f
-    go false f = absurd (let x : _≡_ {A = ℕ} 5 0 = rw f at e in omega arith)
+module _ (n : String) where
+  -- the field of a message that is handed out
+  pub called-handed : (k : ℕ) (place : Bytes → Words) (t : Tree) → called n (messageOf k place t) ≡ calledIn (text n) (rowsOf k) (fieldsIn (rowsOf k) place t)
+  unfolding messageFrom
+  called-handed k place t = ap (calledIn (text n) (rowsOf k)) (handed-back k place t)
 
-first-zero : (a b : ℕ) → first a b ≡ 0 → (a ≡ 0) × (b ≡ 0)
-first-zero zero b e = (refl, e)
-first-zero (suc a) b e = absurd (omega arith)
+  -- where its raw value stands
+  pub place-called : {s : Bytes} {c : Checked} (h : HandedOut s c) (p : Span) → theWords (called n (c .message)) ≡ IsWords p → h .place (text n) ≡ IsWords p
+  place-called {c = c} h p e =
+      called-place (text n) (h .place) (childOf (h .reading)) (rowsOf (saidOf (h .reading) .kind)) p
+      (ap theWords (sym (called-handed (saidOf (h .reading) .kind) (h .place) (childOf (h .reading)))) ∙ ap (λ (m : Message). theWords (called n m)) (sym (h .fields)) ∙ e)
 
--- of a CheckAlive that is not refused, an Id that it has is of at most 80 bytes
-id-kept : (t : Tree) (v : Bytes) → refusalOf (rowsOf 10) t ≡ 0 → Has (text "Id") v (attributesOf t) → length v ≤ 80
-unfolding table refusalOf tried
-id-kept (tree n a f) v e h =
-    let x = first-zero (refusalIn (given _ true (text "Type") a)) (first (refusalIn (given (words 80) true (text "Id") a)) 0) e in
-    let y = first-zero (refusalIn (given (words 80) true (text "Id") a)) 0 (x .1) in
-    kept-limit v (sym (ap refusalIn (given-has true h)) ∙ y .0)
+  handed-sound : Short n → {s : Bytes} {r : Checked} (h : HandedOut s r) → saidOf (h .reading) .refusal ≡ 0 → Sound s (theWords (called n (r .message)))
+  handed-sound short {s} {r} h z p e =
+      let k = saidOf (h .reading) .kind in
+      let t = childOf (h .reading) in
+      let x = h .there (text n) p (place-called h p e) in
+      let q : refusalOf (rowsOf k) t ≡ 0 = sym (ap (λ (l : List Row). refusalOf l t) (rows-table k t)) ∙ z in
+      let f : theWords (calledIn (text n) (rowsOf k) (fieldsIn (rowsOf k) (h .place) t)) ≡ IsWords p = ap theWords (sym (called-handed k (h .place) t)) ∙ ap (λ (m : Message). theWords (called n m)) (sym (h .fields)) ∙ e in
+      (x .value, x .text, x .inside, short-kept (text n) (x .value) (h .place) t (x .has) k p (short .each k) q f)
 
--- where the Id of a message stands
-pub place-of-id : (k : ℕ) (place : Bytes → Words) (t : Tree) → k ≡ 10 → messageOf k place t .alive .id ≡ place (text "Id")
-unfolding messageFrom fieldsIn fieldFor table
-place-of-id k place t e = rw e
+  pub check-sound : Short n → {s : Bytes} {r : Checked} → Checks s r → Sound s (theWords (called n (r .message)))
+  check-sound short {s} {r} (ends start end p l w e) = go (eqb (saidOf (readLayout l) .refusal) 0) refl
+    where
+      refusal-is : r .refusal ≡ saidOf (readLayout l) .refusal
+      refusal-is = ap (λ (c : Checked). c .refusal) e
 
-no-id-of : (k : ℕ) (place : Bytes → Words) (t : Tree) → (k ≡ 10 → ⊥) → messageOf k place t .alive .id ≡ NoWords
-unfolding messageFrom
-no-id-of k place t n = rw (ne-eqb k 10 n)
+      accepted : saidOf (readLayout l) .refusal ≡ 0 → Sound s (theWords (called n (r .message)))
+      accepted z =
+          let h = handed-out {by = table} (ends start end p l w e) (refusal-is ∙ z) in
+          let m : IsMessage (take (r .end - r .start) (drop (r .start) s)) (readLayout l) = subst (λ (c : Checked). IsMessage (take (c .end - c .start) (drop (c .start) s)) (readLayout l)) (sym e) (record { layout = l; laid = w; reads = refl }) in
+          handed-sound short h (ap (λ (t : Tree). saidOf t .refusal) (sym (h .one (readLayout l) m)) ∙ z)
 
-handed-sound : {s : Bytes} {r : Checked} (h : HandedOut s r) → saidOf (h .reading) .refusal ≡ 0 → Sound s (r .message .alive .id)
-handed-sound {s} {r} h z = go (eqb (saidOf (h .reading) .kind) 10) refl
-  where
-    at-id : saidOf (h .reading) .kind ≡ 10 → r .message .alive .id ≡ h .place (text "Id")
-    at-id e = ap (λ (m : Message). m .alive .id) (h .fields) ∙ place-of-id (saidOf (h .reading) .kind) (h .place) (childOf (h .reading)) e
+      go : (b : Bool) → eqb (saidOf (readLayout l) .refusal) 0 ≡ b → Sound s (theWords (called n (r .message)))
+      go true f = accepted (eqb-true (saidOf (readLayout l) .refusal) 0 f)
+      go false f = no-place s (ap (λ (c : Checked). theWords (called n (c .message))) e ∙ ap (λ (b : Bool). theWords (called n (cond b (messageOf (saidOf (readLayout l) .kind) (placesIn start l) (childOf (readLayout l))) (blank (saidOf (readLayout l) .kind))))) f ∙ none-called (text n) (saidOf (readLayout l) .kind))
+  check-sound short {s} (more start p e) = no-place s (ap (λ (c : Checked). theWords (called n (c .message))) e ∙ none-called (text n) 0)
+  check-sound short {s} (malformed start place p e) = no-place s (ap (λ (c : Checked). theWords (called n (c .message))) e ∙ none-called (text n) 0)
+  check-sound short {s} (too-long start p e) = no-place s (ap (λ (c : Checked). theWords (called n (c .message))) e ∙ none-called (text n) 0)
 
-    there : saidOf (h .reading) .kind ≡ 10 → Sound s (r .message .alive .id)
-    there e p f =
-        let x = h .there (text "Id") p (sym (at-id e) ∙ f) in
-        (x .value, x .text, x .inside, id-kept (childOf (h .reading)) (x .value) (ap (λ (k : ℕ). refusalOf (rowsOf k) (childOf (h .reading))) (sym e) ∙ sym (ap (λ (l : List Row). refusalOf l (childOf (h .reading))) (rows-table (saidOf (h .reading) .kind) (childOf (h .reading)))) ∙ z) (x .has))
-
-    go : (b : Bool) → eqb (saidOf (h .reading) .kind) 10 ≡ b → Sound s (r .message .alive .id)
-    go true e = there (eqb-true (saidOf (h .reading) .kind) 10 e)
-    go false e = no-place s (ap (λ (m : Message). m .alive .id) (h .fields) ∙ no-id-of (saidOf (h .reading) .kind) (h .place) (childOf (h .reading)) (eqb-false (saidOf (h .reading) .kind) 10 e))
-
-pub check-sound : {s : Bytes} {r : Checked} → Checks s r → Sound s (r .message .alive .id)
-check-sound {s} {r} (ends start end p l w e) = go (eqb (saidOf (readLayout l) .refusal) 0) refl
-  where
-    refusal-is : r .refusal ≡ saidOf (readLayout l) .refusal
-    refusal-is = ap (λ (c : Checked). c .refusal) e
-
-    accepted : saidOf (readLayout l) .refusal ≡ 0 → Sound s (r .message .alive .id)
-    accepted z =
-        let h = handed-out {by = table} (ends start end p l w e) (refusal-is ∙ z) in
-        let m : IsMessage (take (r .end - r .start) (drop (r .start) s)) (readLayout l) = subst (λ (c : Checked). IsMessage (take (c .end - c .start) (drop (c .start) s)) (readLayout l)) (sym e) (record { layout = l; laid = w; reads = refl }) in
-        handed-sound h (ap (λ (t : Tree). saidOf t .refusal) (sym (h .one (readLayout l) m)) ∙ z)
-
-    go : (b : Bool) → eqb (saidOf (readLayout l) .refusal) 0 ≡ b → Sound s (r .message .alive .id)
-    go true f = accepted (eqb-true (saidOf (readLayout l) .refusal) 0 f)
-    go false f = no-place s (ap (λ (c : Checked). c .message .alive .id) e ∙ rw f refl)
-check-sound {s} (more start p e) = no-place s (ap (λ (c : Checked). c .message .alive .id) e)
-check-sound {s} (malformed start place p e) = no-place s (ap (λ (c : Checked). c .message .alive .id) e)
-check-sound {s} (too-long start p e) = no-place s (ap (λ (c : Checked). c .message .alive .id) e)
+  -- a message that has the text is not refused
+  pub called-accepted : {s : Bytes} {r : Checked} → Checks s r → (p : Span) → theWords (called n (r .message)) ≡ IsWords p → r .refusal ≡ 0
+  called-accepted {s} {r} (ends start end p l w e) q f = go (eqb (saidOf (readLayout l) .refusal) 0) refl
+    where
+      go : (b : Bool) → eqb (saidOf (readLayout l) .refusal) 0 ≡ b → r .refusal ≡ 0
+      go true g = ap (λ (c : Checked). c .refusal) e ∙ eqb-true (saidOf (readLayout l) .refusal) 0 g
+      go false g = not-there (sym (refused-none e g) ∙ f)
+        where
+          refused-none : {x : Checked} → x ≡ checkedAs start end l → eqb (saidOf (readLayout l) .refusal) 0 ≡ false → theWords (called n (x .message)) ≡ NoWords
+          refused-none e g = ap (λ (c : Checked). theWords (called n (c .message))) e ∙ ap (λ (b : Bool). theWords (called n (cond b (messageOf (saidOf (readLayout l) .kind) (placesIn start l) (childOf (readLayout l))) (blank (saidOf (readLayout l) .kind))))) g ∙ none-called (text n) (saidOf (readLayout l) .kind)
+  called-accepted (more start p e) q f = not-there (sym (ap (λ (c : Checked). theWords (called n (c .message))) e ∙ none-called (text n) 0) ∙ f)
+  called-accepted (malformed start place p e) q f = not-there (sym (ap (λ (c : Checked). theWords (called n (c .message))) e ∙ none-called (text n) 0) ∙ f)
+  called-accepted (too-long start p e) q f = not-there (sym (ap (λ (c : Checked). theWords (called n (c .message))) e ∙ none-called (text n) 0) ∙ f)

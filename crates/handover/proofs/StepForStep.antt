@@ -1,7 +1,7 @@
 -- T2.L2: in any run of calls, each refusal and each record is the one that document 01 makes of the record before; no call follows only the first message.
 use mathlib.Core.Path.{_≡_, refl, sym, ap, subst, _∙_}
 use mathlib.Core.List.{List, [], _∷_}
-use mathlib.Core.Bool.{true, false}
+use mathlib.Core.Bool.{Bool, true, false}
 use mathlib.Core.Logic.{⊎-elim}
 use Prim.Native.Nat.{ℕ}
 use native.Mathlib.Omega.{arith}
@@ -11,7 +11,7 @@ use borrow.Author.Tests.{eqb-true, eq-eqb, ne-eqb, le-leb, lt-leb}
 use Rattle.exact.specs.Chain.{clash}
 use Rattle.grammar.specs.Bytes.{Bytes}
 use Rattle.lane.specs.Names.{ProtocolError}
-use Rattle.lane.specs.Chart.{among}
+use Rattle.lane.specs.Chart.{among, Received as IsReceived}
 use Rattle.lane.specs.Record.{blank, stepIn, stepOut, received}
 use Rattle.lane.specs.Laws.{received-by, sent-by}
 use Rattle.lane.specs.StepForStep.{gets, sends as puts, charted, Follows as ByChart}
@@ -22,12 +22,13 @@ use Rattle.lane.specs.declared.chart.Step.{Step}
 use Rattle.lane.specs.declared.chart.Step.the-variants.{To, NoTransition}
 use Rattle.message.specs.Checked.{Checks}
 use Rattle.message.specs.declared.checking.Checked.{Checked}
-use Rattle.message.specs.declared.kinds.Message.{Message}
+use Rattle.message.specs.declared.cells.Message.{Message}
 use Rattle.reads.proofs.Theorems.{check-only}
 use Rattle.number.proofs.Tests.{cases}
 use Rattle.meant.specs.Meant.{refusalOf}
 use Rattle.meant.specs.Written.{writtenOf}
-use Rattle.handover.specs.Ids.{eventOf}
+use Rattle.events.specs.Events.{Carried, eventOf, forecastId, Carries, eventSent}
+use Rattle.events.proofs.Theorems.{carries-only}
 use Rattle.handover.specs.Receiving.{movedBy, Owes, Receives}
 use Rattle.handover.specs.Sending as sending
 use Rattle.handover.specs.Sending.{Sends}
@@ -48,18 +49,18 @@ low-ends n h e f = rw (e, f) at h
 not-ending : {X : Type 0} (n k : ℕ) → n ≡ k → among k (2 ∷ 3 ∷ 4 ∷ 5 ∷ 6 ∷ []) ≡ false → Ending n → X
 not-ending n k e f h = clash (sym h ∙ ap (λ (n : ℕ). among n (2 ∷ 3 ∷ 4 ∷ 5 ∷ 6 ∷ [])) e ∙ f)
 
-received-number : (l : Lane) (m : Message) → received l (eventOf m) .refusal ≡ numbered (stepIn l (eventOf m)) ProtocolError
-received-number l m = go (stepIn l (eventOf m)) refl
+received-number : (l : Lane) (i : Event) → received l i .refusal ≡ numbered (stepIn l i) ProtocolError
+received-number l i = go (stepIn l i) refl
   where
-    go : (st : Step) → stepIn l (eventOf m) ≡ st → received l (eventOf m) .refusal ≡ numbered (stepIn l (eventOf m)) ProtocolError
-    go (To n) e = ap (λ (v : Moved). v .refusal) (received-by l (eventOf m) (To n) e) ∙ rw e refl
-    go NoTransition e = ap (λ (v : Moved). v .refusal) (received-by l (eventOf m) NoTransition e) ∙ rw e refl
+    go : (st : Step) → stepIn l i ≡ st → received l i .refusal ≡ numbered (stepIn l i) ProtocolError
+    go (To n) e = ap (λ (v : Moved). v .refusal) (received-by l i (To n) e) ∙ rw e refl
+    go NoTransition e = ap (λ (v : Moved). v .refusal) (received-by l i NoTransition e) ∙ rw e refl
 
 -- what the promise moves a lane by is the outcome
-outcome : (l : Lane) (c : Checked) → all.Low (c .refusal) → Outcome l c (movedBy l (c .refusal) (c .message) .refusal) (movedBy l (c .refusal) (c .message) .lane)
+outcome : (l : Lane) (c : Checked) (f : Carried) → all.Low (c .refusal) → Outcome l c f (movedBy l (c .refusal) (eventOf (c .message) f) .refusal) (movedBy l (c .refusal) (eventOf (c .message) f) .lane)
 unfolding movedBy
-outcome l c h =
-    cases (eqb (c .refusal) 0) (λ e. rw e (moves (eqb-true (c .refusal) 0 e) (received-number l (c .message)) (charted l (gets (eventOf (c .message))) (received l (eventOf (c .message)) .lane) refl)))
+outcome l c F h =
+    cases (eqb (c .refusal) 0) (λ e. rw e (moves (eqb-true (c .refusal) 0 e) (received-number l (eventOf (c .message) F)) (charted l (gets (eventOf (c .message) F)) (received l (eventOf (c .message) F) .lane) refl)))
     (λ e. rw e (cases (eqb (c .refusal) 1) (λ f. rw f (waits (eqb-true (c .refusal) 1 f) refl refl)) (λ f. rw f (ends (low-ends (c .refusal) h e f) refl refl))))
 
 at : {l : Lane} {n n′ : ℕ} {x x′ : Lane} {c : Call} → n′ ≡ n → x′ ≡ x → Follows l n x c → Follows l n′ x′ c
@@ -67,24 +68,24 @@ at {l} {n} {n′} {x} {x′} {c} e f p = subst (λ (n : ℕ). Follows l n x′ c
 
 receiving-follows : {l : Lane} {s old new : Bytes} {r : Received} → Receives l s old new r → Follows l (r .refusal) (r .lane) (receives s old)
 receiving-follows {l} {s} {old} {new} {r} p =
-    let o = outcome l (p .checked) (all.checked-low (p .checks)) in
-    ⊎-elim (λ h. at (all.told-refusal p h) (all.told-lane p h) (answers (p .checked) (p .due) (p .checks) o (p .owes) h))
-    (λ h. lacks (p .checked) (p .due) (all.moved p .refusal) (all.moved p .lane) (p .checks) o (p .owes) h (ap (λ (r : Received). r .refusal) (all.fits-not p h)) (ap (λ (r : Received). r .lane) (all.fits-not p h)))
+    let o = outcome l (p .checked) (p .forecast) (all.checked-low (p .checks)) in
+    ⊎-elim (λ h. at (all.told-refusal p h) (all.told-lane p h) (answers (p .checked) (p .forecast) (p .due) (p .checks) (p .carries) o (p .owes) h))
+    (λ h. lacks (p .checked) (p .forecast) (p .due) (all.moved p .refusal) (all.moved p .lane) (p .checks) (p .carries) o (p .owes) h (ap (λ (r : Received). r .refusal) (all.fits-not p h)) (ap (λ (r : Received). r .lane) (all.fits-not p h)))
     (all.room p)
 
 -- the step of a message that may be sent, and of one that may not
-step-out : (l : Lane) (m : Message) → sending.movedBy l m .refusal ≡ 0 → (x : ℕ) × (stepOut l (eventOf m) ≡ To x)
-step-out l m z = go (stepOut l (eventOf m)) refl
+step-out : (l : Lane) (m : Message) (texts : Bytes) → sending.movedBy l m texts .refusal ≡ 0 → (x : ℕ) × (stepOut l (eventSent m texts) ≡ To x)
+step-out l m texts z = go (stepOut l (eventSent m texts)) refl
   where
-    go : (st : Step) → stepOut l (eventOf m) ≡ st → (x : ℕ) × (stepOut l (eventOf m) ≡ To x)
+    go : (st : Step) → stepOut l (eventSent m texts) ≡ st → (x : ℕ) × (stepOut l (eventSent m texts) ≡ To x)
     go (To x) e = (x, e)
-    go NoTransition e = absurd (let y : 8 ≡ 0 = sym (ap (λ (v : Moved). v .refusal) (sent-by l (eventOf m) NoTransition e)) ∙ z in omega arith)
+    go NoTransition e = absurd (let y : 8 ≡ 0 = sym (ap (λ (v : Moved). v .refusal) (sent-by l (eventSent m texts) NoTransition e)) ∙ z in omega arith)
 
-no-step-out : (l : Lane) (m : Message) → (sending.movedBy l m .refusal ≡ 0 → ⊥) → stepOut l (eventOf m) ≡ NoTransition
-no-step-out l m n = go (stepOut l (eventOf m)) refl
+no-step-out : (l : Lane) (m : Message) (texts : Bytes) → (sending.movedBy l m texts .refusal ≡ 0 → ⊥) → stepOut l (eventSent m texts) ≡ NoTransition
+no-step-out l m texts n = go (stepOut l (eventSent m texts)) refl
   where
-    go : (st : Step) → stepOut l (eventOf m) ≡ st → stepOut l (eventOf m) ≡ NoTransition
-    go (To x) e = absurd (n (ap (λ (v : Moved). v .refusal) (sent-by l (eventOf m) (To x) e)))
+    go : (st : Step) → stepOut l (eventSent m texts) ≡ st → stepOut l (eventSent m texts) ≡ NoTransition
+    go (To x) e = absurd (n (ap (λ (v : Moved). v .refusal) (sent-by l (eventSent m texts) (To x) e)))
     go NoTransition e = e
 
 sending-follows : {l : Lane} {m : Message} {texts old new : Bytes} {r : Sent} → Sends l m texts old new r → Follows l (r .refusal) (r .lane) (sends m texts old)
@@ -92,9 +93,9 @@ sending-follows {l} {m} {texts} {old} {new} {r} p = go (all.decides p)
   where
     go : all.Decides l m texts old new r → Follows l (r .refusal) (r .lane) (sends m texts old)
     go (all.refused-by n e f) = refuses n (ap (λ (r : Sent). r .refusal) e) (ap (λ (r : Sent). r .lane) e)
-    go (all.may-not a n e f) = may-not a (no-step-out l m n) (ap (λ (r : Sent). r .refusal) e) (ap (λ (r : Sent). r .lane) e)
-    go (all.lacks-room a b h e f) = let (x, q) = step-out l m b in no-room x a q h (ap (λ (r : Sent). r .refusal) e) (ap (λ (r : Sent). r .lane) e)
-    go (all.goes a b h e f) = let (x, q) = step-out l m b in goes x a q h (ap (λ (r : Sent). r .refusal) e) (charted l (puts (eventOf m)) (r .lane) (ap (λ (r : Sent). r .lane) e))
+    go (all.may-not a n e f) = may-not a (no-step-out l m texts n) (ap (λ (r : Sent). r .refusal) e) (ap (λ (r : Sent). r .lane) e)
+    go (all.lacks-room a b h e f) = let (x, q) = step-out l m texts b in no-room x a q h (ap (λ (r : Sent). r .refusal) e) (ap (λ (r : Sent). r .lane) e)
+    go (all.goes a b h e f) = let (x, q) = step-out l m texts b in goes x a q h (ap (λ (r : Sent). r .refusal) e) (charted l (puts (eventSent m texts)) (r .lane) (ap (λ (r : Sent). r .lane) e))
 
 follows : (l : Lane) (n : ℕ) (l′ : Lane) (c : Call) → Makes l n l′ c → Follows l n l′ c
 follows l n l′ (receives s old) (by-receiving new r p en el) = at en el (receiving-follows p)
@@ -106,16 +107,16 @@ step-for-step l [] r = tt
 step-for-step l (t ∷ ts) r = (follows l (t .refusal) (t .lane) (t .call) (r .0), step-for-step (t .lane) ts (r .1))
 
 -- the chart makes one record
-chart-only : (l : Lane) (e : Event) (step : Step) {x y o : Lane} → ByChart l e step x o → ByChart l e step y o → x ≡ y
-chart-only l e step {x} {y} p q = go step refl
+chart-only : (received : Bool) (l : Lane) (e : Event) (step : Step) {x y o : Lane} → ByChart received l e step x o → ByChart received l e step y o → x ≡ y
+chart-only received l e step {x} {y} p q = go step refl
   where
     go : (st : Step) → step ≡ st → x ≡ y
     go (To n) e = p .moves n e ∙ sym (q .moves n e)
     go NoTransition e = p .refuses e ∙ sym (q .refuses e)
 
 -- a checked input has one outcome
-module _ {l : Lane} {c : Checked} {n m : ℕ} {x y : Lane} where
-  outcome-only : Outcome l c n x → Outcome l c m y → (n ≡ m) × (x ≡ y)
+module _ {l : Lane} {c : Checked} {F : Carried} {n m : ℕ} {x y : Lane} where
+  outcome-only : Outcome l c F n x → Outcome l c F m y → (n ≡ m) × (x ≡ y)
   outcome-only (waits e f g) (waits e′ f′ g′) = (f ∙ sym f′, g ∙ sym g′)
   outcome-only (waits e f g) (ends e′ f′ g′) = not-ending (c .refusal) 1 e refl e′
   outcome-only (waits e f g) (moves e′ f′ g′) = absurd (omega arith)
@@ -124,13 +125,14 @@ module _ {l : Lane} {c : Checked} {n m : ℕ} {x y : Lane} where
   outcome-only (ends e f g) (moves e′ f′ g′) = not-ending (c .refusal) 0 e′ refl e
   outcome-only (moves e f g) (waits e′ f′ g′) = absurd (omega arith)
   outcome-only (moves e f g) (ends e′ f′ g′) = not-ending (c .refusal) 0 e refl e′
-  outcome-only (moves e f g) (moves e′ f′ g′) = (f ∙ sym f′, chart-only l (eventOf (c .message)) (stepIn l (eventOf (c .message))) g g′)
+  outcome-only (moves e f g) (moves e′ f′ g′) = (f ∙ sym f′, chart-only IsReceived l (eventOf (c .message) F) (stepIn l (eventOf (c .message) F)) g g′)
 
 -- what is due for an outcome is one
-due-only : {l : Lane} {s : Bytes} {c c′ : Checked} {n m : ℕ} {x y : Lane} {b b′ : Bytes} → Checks s c → Checks s c′ → Outcome l c n x → Outcome l c′ m y → Owes s (c .message) n b → Owes s (c′ .message) m b′ → (n ≡ m) × (x ≡ y) × (b ≡ b′)
-due-only {l} {s} {c} {c′} {n} {m} {x} {y} {b} {b′} h h′ o o′ w w′ =
+due-only : {l : Lane} {s : Bytes} {c c′ : Checked} {F F′ : Carried} {n m : ℕ} {x y : Lane} {b b′ : Bytes} → Checks s c → Checks s c′ → Carries s (forecastId (c .message)) F → Carries s (forecastId (c′ .message)) F′ → Outcome l c F n x → Outcome l c′ F′ m y → Owes s (c .message) n b → Owes s (c′ .message) m b′ → (n ≡ m) × (x ≡ y) × (b ≡ b′)
+due-only {l} {s} {c} {c′} {F} {F′} {n} {m} {x} {y} {b} {b′} h h′ i i′ o o′ w w′ =
     let q : c′ ≡ c = check-only h′ h in
-    let (e, f) = outcome-only o (subst (λ (c : Checked). Outcome l c m y) q o′) in
+    let k : F′ ≡ F = carries-only (subst (λ (c : Checked). Carries s (forecastId (c .message)) F′) q i′) i in
+    let (e, f) = outcome-only o (subst (λ (F : Carried). Outcome l c F m y) k (subst (λ (c : Checked). Outcome l c F′ m y) q o′)) in
     (e, f, all.owes-one w (subst (λ (n : ℕ). Owes s (c .message) n b′) (sym e) (subst (λ (c : Checked). Owes s (c .message) m b′) q w′)))
 
 -- what sending answers by document 01 is what it promises
@@ -139,25 +141,25 @@ unfolding sending.answerOf
 sends-as {l} {m} {texts} {old} (refuses z e f) = let a = ne-eqb (refusalOf m texts) 0 z in (e ∙ rw a refl, f ∙ rw a refl)
 sends-as {l} {m} {texts} {old} (may-not z q e f) =
     let a = eq-eqb (refusalOf m texts) 0 z in
-    let v = sent-by l (eventOf m) NoTransition q in
+    let v = sent-by l (eventSent m texts) NoTransition q in
     (e ∙ rw (a, v) refl, f ∙ rw (a, v) refl)
 sends-as {l} {m} {texts} {old} (no-room k z q h e f) =
     let a = eq-eqb (refusalOf m texts) 0 z in
-    let v = sent-by l (eventOf m) (To k) q in
+    let v = sent-by l (eventSent m texts) (To k) q in
     let b = lt-leb (length (writtenOf m texts)) (length old) h in
     (e ∙ rw (a, v, b) refl, f ∙ rw (a, v, b) refl)
 sends-as {l} {m} {texts} {old} (goes k z q h e f) =
     let a = eq-eqb (refusalOf m texts) 0 z in
-    let v = sent-by l (eventOf m) (To k) q in
+    let v = sent-by l (eventSent m texts) (To k) q in
     let b = le-leb (length (writtenOf m texts)) (length old) h in
     (e ∙ rw (a, v, b) refl, f .moves k q ∙ rw (a, v, b) refl)
 
 -- no second refusal, and no second record, follows a call
 pub follows-only : {l : Lane} (c : Call) {n m : ℕ} {x y : Lane} → Follows l n x c → Follows l m y c → (n ≡ m) × (x ≡ y)
-follows-only (receives s old) (answers c b h o w f) (answers c′ b′ h′ o′ w′ f′) = let (e, g, i) = due-only h h′ o o′ w w′ in (e, g)
-follows-only (receives s old) (answers c b h o w f) (lacks c′ b′ k x h′ o′ w′ f′ e g) = let (i, j, q) = due-only h h′ o o′ w w′ in absurd (let z = ap length q in omega arith)
-follows-only (receives s old) (lacks c b k x h o w f e g) (answers c′ b′ h′ o′ w′ f′) = let (i, j, q) = due-only h h′ o o′ w w′ in absurd (let z = ap length q in omega arith)
-follows-only (receives s old) (lacks c b k x h o w f e g) (lacks c′ b′ k′ x′ h′ o′ w′ f′ e′ g′) = (e ∙ sym e′, g ∙ sym g′)
+follows-only (receives s old) (answers c F b h y o w f) (answers c′ F′ b′ h′ y′ o′ w′ f′) = let (e, g, i) = due-only h h′ y y′ o o′ w w′ in (e, g)
+follows-only (receives s old) (answers c F b h y o w f) (lacks c′ F′ b′ k x h′ y′ o′ w′ f′ e g) = let (i, j, q) = due-only h h′ y y′ o o′ w w′ in absurd (let z = ap length q in omega arith)
+follows-only (receives s old) (lacks c F b k x h y o w f e g) (answers c′ F′ b′ h′ y′ o′ w′ f′) = let (i, j, q) = due-only h h′ y y′ o o′ w w′ in absurd (let z = ap length q in omega arith)
+follows-only (receives s old) (lacks c F b k x h y o w f e g) (lacks c′ F′ b′ k′ x′ h′ y′ o′ w′ f′ e′ g′) = (e ∙ sym e′, g ∙ sym g′)
 follows-only (sends m texts old) p q = let (a, b) = sends-as p in let (c, d) = sends-as q in (a ∙ sym c, b ∙ sym d)
 follows-only loses (lost e f) (lost e′ f′) = (e ∙ sym e′, f ∙ sym f′)
 

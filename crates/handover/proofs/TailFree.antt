@@ -4,6 +4,7 @@ use mathlib.Core.List.{List, _++_}
 use mathlib.Core.Bool.{true}
 use mathlib.Core.Logic.{⊎-elim}
 use Prim.Native.Nat.{ℕ, _+_, _-_, _≤_}
+use Prim.Native.String.{String}
 use native.Mathlib.Omega.{arith}
 use lib.ListN.{length, take, drop, length-drop}
 use lib.Seq.{drop-append-le, take-append-le, take-all}
@@ -16,6 +17,7 @@ use Rattle.grammar.specs.Message.{Laid, Message as IsMessage}
 use Rattle.grammar.specs.Answer.{Answers, endsAt}
 use Rattle.model.specs.Tests.{and-left}
 use Rattle.model.specs.Theorems.{one-reading, tail-free}
+use Rattle.lane.specs.declared.Event.{Event}
 use Rattle.lane.specs.declared.Lane.{Lane}
 use Rattle.value.specs.Text.{Text}
 use Rattle.value.specs.Quotes.{text-one}
@@ -23,18 +25,21 @@ use Rattle.value.specs.declared.text.Span.{Span}
 use Rattle.value.specs.declared.text.Words.{Words}
 use Rattle.value.specs.declared.text.Words.the-variants.{Absent as NoWords, Present as IsWords}
 use Rattle.table.specs.Says.{childOf, saidOf}
-use Rattle.message.specs.Fields.{messageFrom}
 use Rattle.message.specs.Checked.{Checks, ends, more, malformed, too-long, checkedAs}
 use Rattle.message.specs.Handed.{Has, has-here, has-later, attributesOf, HandedOut}
+use Rattle.message.specs.Fields.{theWords}
+use Rattle.message.specs.Messages.{called}
 use Rattle.message.specs.declared.checking.Checked.{Checked}
-use Rattle.message.specs.declared.kinds.Message.{Message}
+use Rattle.message.specs.declared.cells.Message.{Message}
 use Rattle.reads.proofs.Theorems.{check-only, handed-out}
 use Rattle.meant.specs.Written.{writtenOf}
 use Rattle.written_back.specs.First.{firstIn}
 use Rattle.written_back.specs.Replies.{sameOf, Reply, same-id, no-id}
-use Rattle.handover.specs.Receiving.{asksReply, movedBy, Owes, answerOf, Receives}
+use Rattle.handover.specs.Receiving.{asksReply, replyId, movedBy, Owes, answerOf, Receives}
 use Rattle.handover.specs.declared.receiving.Received.{Received}
-use Rattle.handover.proofs.SoundLaws.{place-of-id}
+use Rattle.handover.proofs.SoundLaws.{place-called, called-accepted}
+use Rattle.events.specs.Events.{Carried, eventOf, forecastId, Carries}
+use Rattle.events.proofs.Theorems.{carries-alike}
 use Rattle.handover.proofs.Theorems as all
 
 -- the bytes of a message that ends at the end of s
@@ -70,20 +75,16 @@ has-one (has-here f e) (has-later f′ h′) = clash (sym f ∙ f′)
 has-one (has-later f h) (has-here f′ e′) = clash (sym f′ ∙ f)
 has-one (has-later f h) (has-later f′ h′) = has-one h h′
 
--- two inputs with the same message, one check: the Id reads alike
+-- two inputs with the same message, one check: a text reads alike
 module _ (a b : Bytes) {c : Checked} (x : Checks a c) (y : Checks b c) (z : c .refusal ≡ 0) (same-bytes : take (c .end - c .start) (drop (c .start) a) ≡ take (c .end - c .start) (drop (c .start) b)) where
   one : handed-out x z .reading ≡ handed-out y z .reading
   one = one-reading (subst (λ (w : Bytes). IsMessage w (handed-out x z .reading)) same-bytes (handed-out x z .message)) (handed-out y z .message)
 
-  place-id : {s : Bytes} (h : HandedOut s c) → c .message .kind ≡ 10 → c .message .alive .id ≡ h .place (text "Id")
-  unfolding messageFrom
-  place-id h k = ap (λ (m : Message). m .alive .id) (h .fields) ∙ place-of-id (saidOf (h .reading) .kind) (h .place) (childOf (h .reading)) (sym (ap (λ (m : Message). m .kind) (h .fields)) ∙ k)
-
-  id-alike : c .message .kind ≡ 10 → (p : Span) → c .message .alive .id ≡ IsWords p → (v v′ : Bytes) → Text (take (p .len) (drop (p .start) a)) v → Text (take (p .len) (drop (p .start) b)) v′ → v ≡ v′
-  id-alike k p e v v′ t t′ =
-      let f = handed-out x z .there (text "Id") p (sym (place-id (handed-out x z) k) ∙ e) in
-      let g = handed-out y z .there (text "Id") p (sym (place-id (handed-out y z) k) ∙ e) in
-      text-one t (f .text) ∙ has-one (f .has) (subst (λ (t : Tree). Has (text "Id") (g .value) (attributesOf (childOf t))) (sym one) (g .has)) ∙ text-one (g .text) t′
+  text-alike : (n : String) (p : Span) → theWords (called n (c .message)) ≡ IsWords p → (v v′ : Bytes) → Text (take (p .len) (drop (p .start) a)) v → Text (take (p .len) (drop (p .start) b)) v′ → v ≡ v′
+  text-alike n p e v v′ t t′ =
+      let f = handed-out x z .there (text n) p (place-called n (handed-out x z) p e) in
+      let g = handed-out y z .there (text n) p (place-called n (handed-out y z) p e) in
+      text-one t (f .text) ∙ has-one (f .has) (subst (λ (t : Tree). Has (text n) (g .value) (attributesOf (childOf t))) (sym one) (g .has)) ∙ text-one (g .text) t′
 
 one-span : {w : Words} {p p′ : Span} → w ≡ IsWords p → w ≡ IsWords p′ → p ≡ p′
 one-span a b = cc
@@ -98,12 +99,9 @@ reply-alike h (same-id p e l v t k f) (no-id e′ f′) = not-both e′ e
 reply-alike h (no-id e f) (same-id p′ e′ l′ v′ t′ k′ f′) = not-both e e′
 reply-alike h (no-id e f) (no-id e′ f′) = f ∙ sym f′
 
-asks-kind : (m : Message) → asksReply m ≡ true → m .kind ≡ 10
-unfolding asksReply
-asks-kind m e = eqb-true (m .kind) 10 (and-left (eqb (m .kind) 10) _ e)
-
 -- the bytes behind those that are used change nothing
 pub receive-tail-free : {l : Lane} (s r r′ : Bytes) {old new new′ : Bytes} {x x′ : Received} → Receives l (s ++ r) old new x → x .used ≡ length s → 1 ≤ length s → Receives l (s ++ r′) old new′ x′ → (x ≡ x′) × (new ≡ new′)
+unfolding replyId forecastId
 receive-tail-free {l} s r r′ {old} {new} {new′} {x} {x′} p h k q = ⊎-elim yes (λ f. absurd (let u = ap (λ (x : Received). x .used) (all.fits-not p f) in omega arith)) (all.room p)
   where
     at-end : length (p .due) ≤ length old → p .checked .end ≡ length s
@@ -128,10 +126,19 @@ receive-tail-free {l} s r r′ {old} {new} {new′} {x} {x′} p h k q = ⊎-eli
         go (malformed start place a e) g = absurd (let y = ap (λ (c : Checked). c .end) e in omega arith)
         go (too-long start a e) g = absurd (let y = ap (λ (c : Checked). c .end) e in omega arith)
 
+    forecast-alike : length (p .due) ≤ length old → p .forecast ≡ q .forecast
+    forecast-alike f =
+        carries-alike (λ w e t t′ i j. text-alike (s ++ r) (s ++ r′) (p .checks) (there f) (called-accepted "ForecastId" (p .checks) w e) (cut-alike f) "ForecastId" w e t t′ i j) (p .carries)
+        (subst (λ (c : Checked). Carries (s ++ r′) (forecastId (c .message)) (q .forecast)) (sym (same-check f)) (q .carries))
+
+    same-event : length (p .due) ≤ length old → all.event p ≡ all.event q
+    same-event f = ap (λ (F : Carried). eventOf (p .checked .message) F) (forecast-alike f) ∙ ap (λ (c : Checked). eventOf (c .message) (q .forecast)) (same-check f)
+
     due-alike : length (p .due) ≤ length old → p .due ≡ q .due
     due-alike f =
-        all.owes-alike (λ z a u v. reply-alike (λ w e t t′ i j. id-alike (s ++ r) (s ++ r′) (p .checks) (there f) (all.moved-zero l (p .checked .refusal) (p .checked .message) z) (cut-alike f) (asks-kind (p .checked .message) a) w e t t′ i j) u v) (p .owes)
-        (subst (λ (c : Checked). Owes (s ++ r′) (c .message) (movedBy l (c .refusal) (c .message) .refusal) (q .due)) (sym (same-check f)) (q .owes))
+        all.owes-alike (λ z a u v. reply-alike (λ w e t t′ i j. text-alike (s ++ r) (s ++ r′) (p .checks) (there f) (all.moved-zero l (p .checked .refusal) (all.event p) z) (cut-alike f) "Id" w e t t′ i j) u v) (p .owes)
+        (subst (λ (e : Event). Owes (s ++ r′) (p .checked .message) (movedBy l (p .checked .refusal) e .refusal) (q .due)) (sym (same-event f))
+        (subst (λ (c : Checked). Owes (s ++ r′) (c .message) (movedBy l (c .refusal) (all.event q) .refusal) (q .due)) (sym (same-check f)) (q .owes)))
 
     yes : length (p .due) ≤ length old → (x ≡ x′) × (new ≡ new′)
-    yes f = (p .answer ∙ ap (λ (c : Checked). answerOf l c (p .due) (length old)) (same-check f) ∙ ap (λ (b : Bytes). answerOf l (q .checked) b (length old)) (due-alike f) ∙ sym (q .answer), p .buffer ∙ ap (λ (b : Bytes). firstIn b old) (due-alike f) ∙ sym (q .buffer))
+    yes f = (p .answer ∙ ap (λ (c : Checked). answerOf l c (all.event p) (p .due) (length old)) (same-check f) ∙ ap (λ (e : Event). answerOf l (q .checked) e (p .due) (length old)) (same-event f) ∙ ap (λ (b : Bytes). answerOf l (q .checked) (all.event q) b (length old)) (due-alike f) ∙ sym (q .answer), p .buffer ∙ ap (λ (b : Bytes). firstIn b old) (due-alike f) ∙ sym (q .buffer))

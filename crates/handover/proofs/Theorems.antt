@@ -26,19 +26,19 @@ use Rattle.lane.specs.declared.chart.Step.the-variants.{To, NoTransition}
 use Rattle.table.specs.Table.{table, rowsOf}
 use Rattle.table.specs.Says.{childOf, saidOf, rowsFor}
 use Rattle.message.specs.Checked.{Checks, ends, more, malformed, too-long}
+use Rattle.message.specs.Messages.{fieldsOf, numbersOf, messageBy, idOf}
 use Rattle.message.specs.declared.checking.Checked.{Checked}
-use Rattle.message.specs.declared.kinds.Message.{Message}
+use Rattle.message.specs.declared.cells.Message.{Message}
 use Rattle.reads.proofs.Theorems.{check-only}
-use Rattle.message.specs.Fields.{fieldsOf}
 use Rattle.meant.specs.Meant.{refusalOf, rowsWith}
 use Rattle.meant.specs.Written.{writtenOf}
 use Rattle.meant.specs.Notices.{description, notice}
 use Rattle.written_back.specs.First.{firstIn}
 use Rattle.written_back.specs.Replies.{Reply}
 use Rattle.written_back.proofs.Theorems.{reply-one, reply-long}
-use Rattle.message.specs.Cells.{numbersOf, messageBy, idOf}
-use Rattle.handover.specs.Ids.{eventOf}
-use Rattle.handover.specs.Receiving.{asksReply, movedBy, Owes, nothing-yet, a-notice, a-reply, no-reply, noRoom, told, answerOf, Receives, ReceivesInto}
+use Rattle.events.specs.Events.{Carried, eventOf, forecastId, Carries, eventSent}
+use Rattle.events.proofs.Theorems.{carries-only}
+use Rattle.handover.specs.Receiving.{asksReply, replyId, movedBy, Owes, nothing-yet, a-notice, a-reply, no-reply, noRoom, told, answerOf, Receives, ReceivesInto}
 use Rattle.handover.specs.Sending as sending
 use Rattle.handover.specs.Sending.{Sends}
 use Rattle.handover.specs.declared.receiving.Receipt.{Receipt}
@@ -47,7 +47,7 @@ use Rattle.handover.specs.declared.sending.Sent.{Sent}
 use Rattle.handover.proofs.ListedLaws.{Listed, table-listed, meant-listed}
 
 -- what is owed for two inputs is the same, if a reply is
-pub owes-alike : {a b d d′ : Bytes} {m : Message} {n : ℕ} → (n ≡ 0 → asksReply m ≡ true → Reply a (m .alive .id) d → Reply b (m .alive .id) d′ → d ≡ d′) → Owes a m n d → Owes b m n d′ → d ≡ d′
+pub owes-alike : {a b d d′ : Bytes} {m : Message} {n : ℕ} → (n ≡ 0 → asksReply m ≡ true → Reply a (replyId m) d → Reply b (replyId m) d′ → d ≡ d′) → Owes a m n d → Owes b m n d′ → d ≡ d′
 owes-alike h (nothing-yet e f) (nothing-yet e′ f′) = f ∙ sym f′
 owes-alike h (nothing-yet e f) (a-notice y z f′) = absurd (z e)
 owes-alike h (nothing-yet e f) (a-reply z a r) = absurd (omega arith)
@@ -73,18 +73,23 @@ owes-one = owes-alike (λ z a r r′. reply-one r r′)
 pub receive-only : {l : Lane} {s old new new′ : Bytes} {r r′ : Received} → Receives l s old new r → Receives l s old new′ r′ → (r ≡ r′) × (new ≡ new′)
 receive-only {l} {s} {old} {new} {new′} {r} {r′} p q =
     let c = check-only (p .checks) (q .checks) in
-    let b = owes-one (p .owes) (subst (λ (c : Checked). Owes s (c .message) (movedBy l (c .refusal) (c .message) .refusal) (q .due)) (sym c) (q .owes)) in
-    (p .answer ∙ ap (λ (c : Checked). answerOf l c (p .due) (length old)) c ∙ ap (λ (b : Bytes). answerOf l (q .checked) b (length old)) b ∙ sym (q .answer), (let x = p .buffer in let y = q .buffer in cc))
+    let f = carries-only (p .carries) (subst (λ (c : Checked). Carries s (forecastId (c .message)) (q .forecast)) (sym c) (q .carries)) in
+    let k : eventOf (p .checked .message) (p .forecast) ≡ eventOf (q .checked .message) (q .forecast) = ap (λ (f : Carried). eventOf (p .checked .message) f) f ∙ ap (λ (c : Checked). eventOf (c .message) (q .forecast)) c in
+    let b =
+    owes-one (p .owes)
+    (subst (λ (e : Event). Owes s (p .checked .message) (movedBy l (p .checked .refusal) e .refusal) (q .due)) (sym k)
+    (subst (λ (c : Checked). Owes s (c .message) (movedBy l (c .refusal) (eventOf (q .checked .message) (q .forecast)) .refusal) (q .due)) (sym c) (q .owes))) in (
+      p .answer ∙ ap (λ (c : Checked). answerOf l c (eventOf (p .checked .message) (p .forecast)) (p .due) (length old)) c ∙ ap (λ (e : Event). answerOf l (q .checked) e (p .due) (length old)) k ∙ ap (λ (b : Bytes). answerOf l (q .checked) (eventOf (q .checked .message) (q .forecast)) b (length old)) b ∙ sym (q .answer),
+      (let x = p .buffer in let y = q .buffer in cc),
+    )
 
 -- no second result, no other cells and no other buffer satisfy the promise of `receive_into`
 pub receive-into-only : {l : Lane} {s old new new′ : Bytes} {cells cells′ : List ℕ} {r r′ : Receipt} → ReceivesInto l s old new cells r → ReceivesInto l s old new′ cells′ r′ → (r ≡ r′) × (cells ≡ cells′) × (new ≡ new′)
 receive-into-only {cells = cells} {cells′} {r} {r′} p q =
-    let (e, b) = receive-only (p .receives) (q .receives) in
-    let m : messageBy (r .kind) cells (r .id) ≡ messageBy (r′ .kind) cells′ (r′ .id) = ap (λ (x : Received). x .message) e in
-    let n : r .kind ∷ cells ≡ r′ .kind ∷ cells′ = p .told-so .numbers ∙ ap numbersOf m ∙ sym (q .told-so .numbers) in
-    let i : r .id ≡ r′ .id = p .told-so .named ∙ ap idOf m ∙ sym (q .told-so .named) in (
-      same (ap (λ (x : Received). x .refusal) e) (ap (λ (x : Received). x .lane) e) (ap (λ (x : Received). x .order) e) (ap (λ (x : Received). x .used) e) (ap (λ (x : Received). x .written) e) (ap (λ (x : Received). x .place) e) (ap (λ (l : List ℕ). getD l 0 0) n) i,
-      ap (drop 1) n,
+    let (e, b) = receive-only p q in
+    let m : messageBy (r .kind) cells (r .id) ≡ messageBy (r′ .kind) cells′ (r′ .id) = ap (λ (x : Received). x .message) e in (
+      same (ap (λ (x : Received). x .refusal) e) (ap (λ (x : Received). x .lane) e) (ap (λ (x : Received). x .order) e) (ap (λ (x : Received). x .used) e) (ap (λ (x : Received). x .written) e) (ap (λ (x : Received). x .place) e) (ap (λ (m : Message). m .kind) m) (ap (λ (m : Message). m .id) m),
+      ap (λ (m : Message). m .cells) m,
       b,
     )
   where
@@ -139,11 +144,11 @@ received-refusal l e = go (stepIn l e) refl
 pub low-moves : (n : ℕ) → Low n → Moves n
 low-moves n e = among-more n (0 ∷ 1 ∷ 2 ∷ 3 ∷ 4 ∷ 5 ∷ 6 ∷ []) (9 ∷ []) e
 
-moved-listed : (l : Lane) (n : ℕ) (m : Message) → Low n → Moves (movedBy l n m .refusal)
+moved-listed : (l : Lane) (n : ℕ) (i : Event) → Low n → Moves (movedBy l n i .refusal)
 unfolding movedBy
-moved-listed l n m h =
+moved-listed l n i h =
     cases (eqb n 0)
-    (λ e. rw e (⊎-elim (λ z. subst Moves (sym z) refl) (λ z. subst (λ (v : Moved). Moves (v .refusal)) (sym z) refl) (received-refusal l (eventOf m))))
+    (λ e. rw e (⊎-elim (λ z. subst Moves (sym z) refl) (λ z. subst (λ (v : Moved). Moves (v .refusal)) (sym z) refl) (received-refusal l i)))
     (λ e. rw e (cases (eqb n 1) (λ f. rw f refl) (λ f. rw f (low-moves n h))))
 
 abbrev Any : ℕ → Type 0
@@ -201,18 +206,18 @@ nothing-first : (old : Bytes) → firstIn [] old ≡ old
 nothing-first old = rw (le-leb 0 (length old) (omega arith)) refl
 
 -- 1 is `check`'s
-pub moved-one : (l : Lane) (n : ℕ) (m : Message) → n ≡ 1 → movedBy l n m ≡ keptMoved l 1
+pub moved-one : (l : Lane) (n : ℕ) (i : Event) → n ≡ 1 → movedBy l n i ≡ keptMoved l 1
 unfolding movedBy
-moved-one l n m e = rw e refl
+moved-one l n i e = rw e refl
 
-moved-one-refusal : (l : Lane) (n : ℕ) (m : Message) → n ≡ 1 → movedBy l n m .refusal ≡ 1
-moved-one-refusal l n m e = ap (λ (v : Moved). v .refusal) (moved-one l n m e)
+moved-one-refusal : (l : Lane) (n : ℕ) (i : Event) → n ≡ 1 → movedBy l n i .refusal ≡ 1
+moved-one-refusal l n i e = ap (λ (v : Moved). v .refusal) (moved-one l n i e)
 
-only-one : (l : Lane) (n : ℕ) (m : Message) → movedBy l n m .refusal ≡ 1 → n ≡ 1
+only-one : (l : Lane) (n : ℕ) (i : Event) → movedBy l n i .refusal ≡ 1 → n ≡ 1
 unfolding movedBy
-only-one l n m e =
+only-one l n i e =
     cases (eqb n 0)
-    (λ f. absurd (⊎-elim (λ z. let x : 0 ≡ 1 = sym z ∙ (rw f at e) in omega arith) (λ z. let x : 9 ≡ 1 = sym (ap (λ (v : Moved). v .refusal) z) ∙ (rw f at e) in omega arith) (received-refusal l (eventOf m))))
+    (λ f. absurd (⊎-elim (λ z. let x : 0 ≡ 1 = sym z ∙ (rw f at e) in omega arith) (λ z. let x : 9 ≡ 1 = sym (ap (λ (v : Moved). v .refusal) z) ∙ (rw f at e) in omega arith) (received-refusal l i)))
     (λ f. cases (eqb n 1) (λ g. eqb-true n 1 g) (λ g. rw (f, g) at e))
 
 more-ends : {s : Bytes} {c : Checked} → Checks s c → c .refusal ≡ 1 → c .end ≡ 0
@@ -224,19 +229,22 @@ more-ends (more start p e) h = ap (λ (c : Checked). c .end) e
 more-ends (malformed start place p e) h = ap (λ (c : Checked). c .end) e
 more-ends (too-long start p e) h = ap (λ (c : Checked). c .end) e
 
-moved-ids-zero : (l : Lane) (n : ℕ) (m : Message) → (n ≡ 1 → ⊥) → IdsZero (movedBy l n m .lane)
+moved-ids-zero : (l : Lane) (n : ℕ) (i : Event) → (n ≡ 1 → ⊥) → IdsZero (movedBy l n i .lane)
 unfolding movedBy
-moved-ids-zero l n m h =
-    cases (eqb n 0) (λ e. rw e (received-ids-zero l (eventOf m)))
+moved-ids-zero l n i h =
+    cases (eqb n 0) (λ e. rw e (received-ids-zero l i))
     (λ e. rw (e, ne-eqb n 1 h) (lost-ids-zero l))
 
 -- T1.1: receiving answers 0 to 7, or 9
 module _ {l : Lane} {s old new : Bytes} {r : Received} (p : Receives l s old new r) where
+  abbrev pub event : Event
+  event = eventOf (p .checked .message) (p .forecast)
+
   abbrev pub moved : Moved
-  moved = movedBy l (p .checked .refusal) (p .checked .message)
+  moved = movedBy l (p .checked .refusal) event
 
   moves : Moves (moved .refusal)
-  moves = moved-listed l (p .checked .refusal) (p .checked .message) (checked-low (p .checks))
+  moves = moved-listed l (p .checked .refusal) event (checked-low (p .checks))
 
   -- the answer where what is owed fits, and where it does not
   pub fits : length (p .due) ≤ length old → r ≡ told (p .checked) moved (length (p .due))
@@ -315,14 +323,14 @@ module _ {l : Lane} {s old new : Bytes} {r : Received} (p : Receives l s old new
       one : length (p .due) ≤ length old → moved .refusal ≡ 1 → (r .lane ≡ l) × (new ≡ old) × (r .order ≡ NoOrder) × (r .used ≡ 0) × (r .written ≡ 0)
       one h e =
           let d : p .due ≡ [] = owes-nothing (p .owes) e in
-          let c : p .checked .refusal ≡ 1 = only-one l (p .checked .refusal) (p .checked .message) e in
-          let v : moved ≡ keptMoved l 1 = moved-one l (p .checked .refusal) (p .checked .message) c in
+          let c : p .checked .refusal ≡ 1 = only-one l (p .checked .refusal) event e in
+          let v : moved ≡ keptMoved l 1 = moved-one l (p .checked .refusal) event c in
           (told-lane h ∙ ap (λ (v : Moved). v .lane) v, p .buffer ∙ ap (λ (b : Bytes). firstIn b old) d ∙ nothing-first old, told-order h ∙ ap (λ (v : Moved). v .order) v, told-used h ∙ more-ends (p .checks) c, told-written h ∙ ap length d)
 
   -- T2.L3: "Ids not in use are .. zero bytes in every record returned with an accepted message or as NotConnected"
   pub receive-ids-zero : (r .refusal ≡ 1 → ⊥) → (r .refusal ≡ 7 → ⊥) → IdsZero (r .lane)
   receive-ids-zero n m =
-      ⊎-elim (λ h. subst IdsZero (sym (told-lane h)) (moved-ids-zero l (p .checked .refusal) (p .checked .message) (λ e. n (told-refusal h ∙ moved-one-refusal l (p .checked .refusal) (p .checked .message) e))))
+      ⊎-elim (λ h. subst IdsZero (sym (told-lane h)) (moved-ids-zero l (p .checked .refusal) event (λ e. n (told-refusal h ∙ moved-one-refusal l (p .checked .refusal) event e))))
       (λ h. absurd (m (ap (λ (r : Received). r .refusal) (fits-not h))))
       room
 
@@ -334,20 +342,20 @@ module _ {l : Lane} {s old new : Bytes} {r : Received} (p : Receives l s old new
 pub record Accepts {l : Lane} {s old new : Bytes} {r : Received} (p : Receives l s old new r) : Type 0 where
   pub checked : p .checked .refusal ≡ 0
   pub fitted : length (p .due) ≤ length old
-  pub lane : r .lane ≡ received l (eventOf (p .checked .message)) .lane
-  pub order : r .order ≡ received l (eventOf (p .checked .message)) .order
-  pub accepted : received l (eventOf (p .checked .message)) .refusal ≡ 0
+  pub lane : r .lane ≡ received l (eventOf (p .checked .message) (p .forecast)) .lane
+  pub order : r .order ≡ received l (eventOf (p .checked .message) (p .forecast)) .order
+  pub accepted : received l (eventOf (p .checked .message) (p .forecast)) .refusal ≡ 0
   pub message : r .message ≡ p .checked .message
 
-pub moved-zero : (l : Lane) (n : ℕ) (m : Message) → movedBy l n m .refusal ≡ 0 → n ≡ 0
+pub moved-zero : (l : Lane) (n : ℕ) (i : Event) → movedBy l n i .refusal ≡ 0 → n ≡ 0
 unfolding movedBy
-moved-zero l n m e =
+moved-zero l n i e =
     cases (eqb n 0) (λ f. eqb-true n 0 f)
     (λ f. cases (eqb n 1) (λ g. absurd (let x : 1 ≡ 0 = rw (f, g) at e in omega arith)) (λ g. rw (f, g) at e))
 
-pub moved-on : (l : Lane) (n : ℕ) (m : Message) → n ≡ 0 → movedBy l n m ≡ received l (eventOf m)
+pub moved-on : (l : Lane) (n : ℕ) (i : Event) → n ≡ 0 → movedBy l n i ≡ received l i
 unfolding movedBy
-moved-on l n m e = rw e refl
+moved-on l n i e = rw e refl
 
 pub accepts : {l : Lane} {s old new : Bytes} {r : Received} (p : Receives l s old new r) → r .refusal ≡ 0 → Accepts p
 unfolding told
@@ -356,8 +364,8 @@ accepts {l} {s} {old} {new} {r} p e = ⊎-elim yes (λ h. absurd (let x : 7 ≡ 
     yes : length (p .due) ≤ length old → Accepts p
     yes h =
         let z : moved p .refusal ≡ 0 = sym (told-refusal p h) ∙ e in
-        let c = moved-zero l (p .checked .refusal) (p .checked .message) z in
-        let v = moved-on l (p .checked .refusal) (p .checked .message) c in
+        let c = moved-zero l (p .checked .refusal) (event p) z in
+        let v = moved-on l (p .checked .refusal) (event p) c in
         record {
           checked = c;
           fitted = h;
@@ -370,10 +378,10 @@ accepts {l} {s} {old} {new} {r} p e = ⊎-elim yes (λ h. absurd (let x : 7 ≡ 
 -- sending: the four answers
 pub data Decides (l : Lane) (m : Message) (texts old new : Bytes) (r : Sent) : Type 0 where
   refused-by : (refusalOf m texts ≡ 0 → ⊥) → r ≡ sending.kept l (refusalOf m texts) → new ≡ old → Decides l m texts old new r
-  may-not : refusalOf m texts ≡ 0 → (sending.movedBy l m .refusal ≡ 0 → ⊥) → r ≡ sending.kept l 8 → new ≡ old → Decides l m texts old new r
-  lacks-room : refusalOf m texts ≡ 0 → sending.movedBy l m .refusal ≡ 0 → length old < length (writtenOf m texts) → r ≡ sending.kept l 7 → new ≡ old → Decides l m texts old new r
-  goes : refusalOf m texts ≡ 0 → sending.movedBy l m .refusal ≡ 0 → length (writtenOf m texts) ≤ length old
-      → r ≡ record { refusal = 0; lane = sending.movedBy l m .lane; order = sending.movedBy l m .order; written = length (writtenOf m texts) }
+  may-not : refusalOf m texts ≡ 0 → (sending.movedBy l m texts .refusal ≡ 0 → ⊥) → r ≡ sending.kept l 8 → new ≡ old → Decides l m texts old new r
+  lacks-room : refusalOf m texts ≡ 0 → sending.movedBy l m texts .refusal ≡ 0 → length old < length (writtenOf m texts) → r ≡ sending.kept l 7 → new ≡ old → Decides l m texts old new r
+  goes : refusalOf m texts ≡ 0 → sending.movedBy l m texts .refusal ≡ 0 → length (writtenOf m texts) ≤ length old
+      → r ≡ record { refusal = 0; lane = sending.movedBy l m texts .lane; order = sending.movedBy l m texts .order; written = length (writtenOf m texts) }
       → new ≡ writtenOf m texts ++ drop (length (writtenOf m texts)) old
       → Decides l m texts old new r
 
@@ -381,11 +389,11 @@ pub decides : {l : Lane} {m : Message} {texts old new : Bytes} {r : Sent} → Se
 unfolding sending.answerOf sending.bufferOf
 decides {l} {m} {texts} {old} {new} {r} p =
     cases (eqb (refusalOf m texts) 0)
-    (λ a. cases (eqb (sending.movedBy l m .refusal) 0)
+    (λ a. cases (eqb (sending.movedBy l m texts .refusal) 0)
     (λ b. cases (leb (length (writtenOf m texts)) (length old))
-    (λ c. goes (eqb-true (refusalOf m texts) 0 a) (eqb-true (sending.movedBy l m .refusal) 0 b) (leb-true (length (writtenOf m texts)) (length old) c) (p .answer ∙ rw (a, b, c) refl) (p .buffer ∙ rw (a, b, c) refl))
-    (λ c. lacks-room (eqb-true (refusalOf m texts) 0 a) (eqb-true (sending.movedBy l m .refusal) 0 b) (leb-false (length (writtenOf m texts)) (length old) c) (p .answer ∙ rw (a, b, c) refl) (p .buffer ∙ rw (a, b, c) refl)))
-    (λ b. may-not (eqb-true (refusalOf m texts) 0 a) (eqb-false (sending.movedBy l m .refusal) 0 b) (p .answer ∙ rw (a, b) refl) (p .buffer ∙ rw (a, b) refl)))
+    (λ c. goes (eqb-true (refusalOf m texts) 0 a) (eqb-true (sending.movedBy l m texts .refusal) 0 b) (leb-true (length (writtenOf m texts)) (length old) c) (p .answer ∙ rw (a, b, c) refl) (p .buffer ∙ rw (a, b, c) refl))
+    (λ c. lacks-room (eqb-true (refusalOf m texts) 0 a) (eqb-true (sending.movedBy l m texts .refusal) 0 b) (leb-false (length (writtenOf m texts)) (length old) c) (p .answer ∙ rw (a, b, c) refl) (p .buffer ∙ rw (a, b, c) refl)))
+    (λ b. may-not (eqb-true (refusalOf m texts) 0 a) (eqb-false (sending.movedBy l m texts .refusal) 0 b) (p .answer ∙ rw (a, b) refl) (p .buffer ∙ rw (a, b) refl)))
     (λ a. refused-by (eqb-false (refusalOf m texts) 0 a) (p .answer ∙ rw a refl) (p .buffer ∙ rw a refl))
 
 module _ {l : Lane} {m : Message} {texts old new : Bytes} {r : Sent} (p : Sends l m texts old new r) where
@@ -403,10 +411,10 @@ module _ {l : Lane} {m : Message} {texts old new : Bytes} {r : Sent} (p : Sends 
       go (goes a b h e f) = at e refl
 
   -- T1.4: 7 exactly if the message may be sent and its bytes are more than the buffer holds
-  pub send-seven-iff : (r .refusal ≡ 7) ↔ ((refusalOf m texts ≡ 0) × (sending.movedBy l m .refusal ≡ 0) × (length old < length (writtenOf m texts)))
+  pub send-seven-iff : (r .refusal ≡ 7) ↔ ((refusalOf m texts ≡ 0) × (sending.movedBy l m texts .refusal ≡ 0) × (length old < length (writtenOf m texts)))
   send-seven-iff = (to (decides p), from (decides p))
     where
-      to : Decides l m texts old new r → r .refusal ≡ 7 → (refusalOf m texts ≡ 0) × (sending.movedBy l m .refusal ≡ 0) × (length old < length (writtenOf m texts))
+      to : Decides l m texts old new r → r .refusal ≡ 7 → (refusalOf m texts ≡ 0) × (sending.movedBy l m texts .refusal ≡ 0) × (length old < length (writtenOf m texts))
       to (refused-by n e f) h = absurd (no-seven (refusalOf m texts) (meant-listed (rowsWith (rowsOf (m .kind)) (fieldsOf m)) (fieldsOf m) texts) (sym (ap (λ (r : Sent). r .refusal) e) ∙ h))
         where
           no-seven : (n : ℕ) → Listed n → n ≡ 7 → ⊥
@@ -415,7 +423,7 @@ module _ {l : Lane} {m : Message} {texts old new : Bytes} {r : Sent} (p : Sends 
       to (lacks-room a b h e f) g = (a, b, h)
       to (goes a b h e f) g = absurd (let x : 0 ≡ 7 = sym (ap (λ (r : Sent). r .refusal) e) ∙ g in omega arith)
 
-      from : Decides l m texts old new r → (refusalOf m texts ≡ 0) × (sending.movedBy l m .refusal ≡ 0) × (length old < length (writtenOf m texts)) → r .refusal ≡ 7
+      from : Decides l m texts old new r → (refusalOf m texts ≡ 0) × (sending.movedBy l m texts .refusal ≡ 0) × (length old < length (writtenOf m texts)) → r .refusal ≡ 7
       from (refused-by n e f) (a, b, h) = absurd (n a)
       from (may-not a n e f) (a′, b, h) = absurd (n b)
       from (lacks-room a b h e f) q = ap (λ (r : Sent). r .refusal) e
@@ -454,4 +462,4 @@ module _ {l : Lane} {m : Message} {texts old new : Bytes} {r : Sent} (p : Sends 
       go (refused-by k e f) = absurd (k (sym (ap (λ (r : Sent). r .refusal) e) ∙ z))
       go (may-not a k e f) = absurd (let x : 8 ≡ 0 = sym (ap (λ (r : Sent). r .refusal) e) ∙ z in omega arith)
       go (lacks-room a b h e f) = absurd (let x : 7 ≡ 0 = sym (ap (λ (r : Sent). r .refusal) e) ∙ z in omega arith)
-      go (goes a b h e f) = subst IdsZero (sym (ap (λ (r : Sent). r .lane) e)) (sent-ids-zero l (eventOf m) b)
+      go (goes a b h e f) = subst IdsZero (sym (ap (λ (r : Sent). r .lane) e)) (sent-ids-zero l (eventSent m texts) b)

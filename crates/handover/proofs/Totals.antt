@@ -18,17 +18,19 @@ use Rattle.value.specs.declared.text.Words.{Words}
 use Rattle.value.specs.declared.text.Words.the-variants.{Absent as NoWords, Present as IsWords}
 use Rattle.message.specs.Checked.{Checks, ends, more, malformed, too-long, checkedAs, unread}
 use Rattle.message.specs.declared.checking.Checked.{Checked}
-use Rattle.message.specs.declared.kinds.Message.{Message}
+use Rattle.message.specs.declared.cells.Message.{Message}
 use Rattle.meant.specs.Written.{writtenOf}
 use Rattle.meant.specs.Notices.{notice}
 use Rattle.written_back.specs.First.{firstIn}
 use Rattle.written_back.specs.Replies.{sameOf, bareOf, Reply, same-id, no-id}
-use Rattle.handover.specs.Receiving.{asksReply, movedBy, Owes, nothing-yet, a-notice, a-reply, no-reply, answerOf, Receives, Sound}
+use Rattle.handover.specs.Receiving.{asksReply, replyId, movedBy, Owes, nothing-yet, a-notice, a-reply, no-reply, answerOf, Receives}
+use Rattle.events.specs.Events.{Carried, no-forecast, a-forecast, eventOf, forecastId, Carries, carries-none, carries-one}
+use Rattle.events.specs.Says.{Sound}
 use Rattle.handover.specs.Sending as sending
 use Rattle.handover.specs.Sending.{Sends}
 use Rattle.handover.specs.declared.receiving.Received.{Received}
 use Rattle.handover.specs.declared.sending.Sent.{Sent}
-use Rattle.handover.proofs.SoundLaws.{check-sound}
+use Rattle.handover.proofs.ReceiveLaws.{id-sound, forecast-sound}
 
 -- the bytes of a message that ends
 ended-bytes : (s g w rest : Bytes) (start end : ℕ) → s ≡ g ++ (w ++ rest) → start ≡ length g → end ≡ length g + length w → take (end - start) (drop start s) ≡ w
@@ -51,18 +53,23 @@ reply-total : (s : Bytes) (w : Words) → Sound s w → (b : Bytes) × Reply s w
 reply-total s NoWords h = (writtenOf bareOf [], no-id refl refl)
 reply-total s (IsWords p) h = let (v, t, l, k) = h p refl in (writtenOf (sameOf (length v)) v, same-id p refl l v t k refl)
 
-owed-total : (s : Bytes) (m : Message) (n : ℕ) → Sound s (m .alive .id) → (b : Bytes) × Owes s m n b
+carried-total : (s : Bytes) (w : Words) → Sound s w → (f : Carried) × Carries s w f
+carried-total s NoWords h = (no-forecast, carries-none refl refl)
+carried-total s (IsWords p) h = let (v, t, l, k) = h p refl in (a-forecast v, carries-one p refl v t refl)
+
+owed-total : (s : Bytes) (m : Message) (n : ℕ) → Sound s (replyId m) → (b : Bytes) × Owes s m n b
 owed-total s m n h = cases (eqb n 1) (λ e. ([], nothing-yet (eqb-true n 1 e) refl)) (λ e. cases (eqb n 0) (λ z. cases (asksReply m) (λ a. replied (eqb-true n 0 z) a) (λ a. ([], no-reply (eqb-true n 0 z) a refl))) (λ z. (notice n, a-notice (eqb-false n 0 z) (eqb-false n 1 e) refl)))
   where
     replied : n ≡ 0 → asksReply m ≡ true → (b : Bytes) × Owes s m n b
-    replied z a = let (b, x) = reply-total s (m .alive .id) h in (b, a-reply z a x)
+    replied z a = let (b, x) = reply-total s (replyId m) h in (b, a-reply z a x)
 
 -- "Every byte string, every lane record and every caller's buffer .. gets one defined reply": one at least; `receive-only` says one at most
 pub receive-total : (l : Lane) (s old : Bytes) → (new : Bytes) × (r : Received) × Receives l s old new r
 receive-total l s old =
     let (c, h) = check-total s in
-    let (b, o) = owed-total s (c .message) (movedBy l (c .refusal) (c .message) .refusal) (check-sound h) in
-    (firstIn b old, answerOf l c b (length old), record { checked = c; checks = h; due = b; owes = o; answer = refl; buffer = refl })
+    let (f, k) = carried-total s (forecastId (c .message)) (forecast-sound h) in
+    let (b, o) = owed-total s (c .message) (movedBy l (c .refusal) (eventOf (c .message) f) .refusal) (id-sound h) in
+    (firstIn b old, answerOf l c (eventOf (c .message) f) b (length old), record { checked = c; checks = h; forecast = f; carries = k; due = b; owes = o; answer = refl; buffer = refl })
 
 pub send-total : (l : Lane) (m : Message) (texts old : Bytes) → (new : Bytes) × (r : Sent) × Sends l m texts old new r
 send-total l m texts old = (sending.bufferOf l m texts old, sending.answerOf l m texts (length old), record { answer = refl; buffer = refl })

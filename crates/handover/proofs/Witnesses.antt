@@ -24,20 +24,22 @@ use Rattle.number.specs.Bytes.{trim, dropBack, dropFront, keepBefore, blank, no
 use Rattle.number.specs.Whole.{intOf, signed, sized}
 use Rattle.lane.specs.Names.{D, CheckAlive}
 use Rattle.lane.specs.Chart.{chart, byRows, next}
-use Rattle.lane.specs.Record.{fresh, sent}
+use Rattle.lane.specs.Record.{fresh, sent, righted}
 use Rattle.lane.specs.Free.{check-alive-received}
 use Rattle.lane.specs.declared.Lane.{Lane}
 use Rattle.value.specs.declared.text.Words.{Words}
 use Rattle.table.specs.Table.{table, rowsOf, kindOf}
 use Rattle.table.specs.Says.{judged, tried, refusalOf, childOf, saidOf}
-use Rattle.message.specs.Fields.{fieldFor, fieldsIn, messageFrom}
+use Rattle.message.specs.Fields.{fieldFor, fieldsIn}
 use Rattle.message.specs.Checked.{messageOf}
+use Rattle.message.specs.Cells.{cellsOf, fieldsFrom, fieldBy, wordsBy, wholeBy}
+use Rattle.message.specs.Messages.{messageFrom, fieldsOf, withZeros}
 use Rattle.message.specs.declared.checking.Checked.{Checked}
-use Rattle.message.specs.declared.kinds.Message.{Message}
+use Rattle.message.specs.declared.cells.Message.{Message}
 use Rattle.meant.specs.Notices.{notice}
 use Rattle.meant.proofs.Theorems.{notice-lengths}
-use Rattle.handover.specs.Ids.{eventOf}
-use Rattle.handover.specs.Receiving.{asksReply, movedBy, Owes, nothing-yet, a-notice, a-reply, no-reply, Receives}
+use Rattle.events.specs.Events.{eventOf}
+use Rattle.handover.specs.Receiving.{asksReply, replyId, movedBy, Owes, nothing-yet, a-notice, a-reply, no-reply, Receives}
 use Rattle.handover.specs.Sending.{Sends}
 use Rattle.handover.specs.Bench.{readingOf}
 use Rattle.handover.specs.declared.receiving.Received.{Received}
@@ -53,7 +55,7 @@ ping = "<Hermes><CheckAlive Type=\"1\" Id=\"a\"/></Hermes>"
 
 ping-reads : (messageP (text ping) ≡ done (readingOf ping) []) × (saidOf (readingOf ping) .kind ≡ CheckAlive) × (saidOf (readingOf ping) .refusal ≡ 0)
     × ((place : Bytes → Words) → asksReply (messageOf (saidOf (readingOf ping) .kind) place (childOf (readingOf ping))) ≡ true)
-unfolding readValue readItem utf8 loopP within digit isChar isGlue letter nameStart nameByte isQuote banned plainByte charP closeP elemP leafTagP nodeTagP contentTurnP contentP fillP rootP layoutP messageP live new itemP VturnP valueP endP quotedP equalsP attrP AturnP headP table tried refusalOf intOf signed sized trim dropBack dropFront keepBefore blank someByte every isDigit valueFrom judged messageFrom fieldsIn fieldFor asksReply
+unfolding readValue readItem utf8 loopP within digit isChar isGlue letter nameStart nameByte isQuote banned plainByte charP closeP elemP leafTagP nodeTagP contentTurnP contentP fillP rootP layoutP messageP live new itemP VturnP valueP endP quotedP equalsP attrP AturnP headP table tried refusalOf intOf signed sized trim dropBack dropFront keepBefore blank someByte every isDigit valueFrom judged messageFrom fieldsIn fieldFor asksReply fieldsOf withZeros cellsOf fieldsFrom fieldBy wordsBy wholeBy
 ping-reads = (refl, refl, refl, λ place. refl)
 
 -- in every lane it is accepted and asks for a reply: `receive-reply` says which
@@ -61,7 +63,7 @@ pub ping-asks : {l : Lane} {old new : Bytes} {r : Received} (rest : Bytes) → R
 ping-asks {l} rest p room =
     let (e, k, z, a) = ping-reads in
     let f : Finds (text ping) (readingOf ping) (p .checked) = finds rest (whole-message (text ping) e) (omega arith) (p .checks) z in
-    let v = check-alive-received l (eventOf (p .checked .message)) (f .kind ∙ k) in
+    let v = check-alive-received l (all.event p) (f .kind ∙ k) in
     let n = in-lane p room _ (f .refusal ∙ z) v .0 in
     (n, ap asksReply (all.accepts p n .message ∙ f .message) ∙ a (f .place))
 
@@ -76,11 +78,11 @@ pub seven-received : {l : Lane} {new : Bytes} {r : Received} → Receives l (tex
 unfolding movedBy
 seven-received {l} p =
     let e = bench-carried .1 .1 .0 .1 (p .checked) (p .checks) in
-    let v = ap (λ (c : Checked). movedBy l (c .refusal) (c .message) .refusal) e in
+    let v = ap (λ (c : Checked). movedBy l (c .refusal) (eventOf (c .message) (p .forecast)) .refusal) e in
     let n = ap length (owes-notice (p .owes) v) ∙ notice-lengths .0 in
     all.receive-seven-iff p .1 (omega arith)
 
 -- a message that does not fit: 7
 pub seven-sent : {new : Bytes} {r : Sent} → Sends (fresh D) service texts [] new r → r .refusal ≡ 7
-unfolding messageFrom sent next byRows chart
+unfolding messageFrom sent righted next byRows chart
 seven-sent p = all.send-seven-iff p .1 (service-good, refl, omega arith)

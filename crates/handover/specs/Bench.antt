@@ -33,16 +33,17 @@ use Rattle.number.specs.Whole.{Whole, noInt, int, intOf, signed, sized}
 use Rattle.number.specs.Positive.{Number, noNumber, number, numberOf, written, short, above, millionths, decimal, parted, unsigned}
 use Rattle.lane.specs.Names.{U, NotConnected, Ready, Transporting, Unknown, CheckAlive, Cancel, StopNow, Accepted, ProtocolError}
 use Rattle.lane.specs.Chart.{next, byRows, chart}
-use Rattle.lane.specs.Record.{noId, sameId, received}
+use Rattle.lane.specs.Record.{noId, sameId, received, noForecast, righted}
 use Rattle.lane.specs.declared.Lane.{Lane}
 use Rattle.lane.specs.declared.Moved.{Moved}
 use Rattle.table.specs.Table.{table, rowsOf, kindOf}
 use Rattle.table.specs.Says.{judged, tried, refusalOf, childOf, saidOf}
-use Rattle.message.specs.Fields.{fieldFor, fieldsIn, messageFrom}
+use Rattle.message.specs.Fields.{fieldFor, fieldsIn}
 use Rattle.message.specs.Checked.{messageOf}
+use Rattle.message.specs.Cells.{cellsOf, fieldsFrom, fieldBy, guidBy}
+use Rattle.message.specs.Messages.{messageFrom, idOf, fieldsOf, withZeros}
 use Rattle.value.specs.declared.text.Words.{Words}
-use Rattle.message.specs.Cells.{idOf}
-use Rattle.handover.specs.Ids.{eventOf}
+use Rattle.events.specs.Events.{Carried, eventOf}
 
 pub data Case : Type 0 where
   reads : String → Answer → Case
@@ -62,9 +63,9 @@ readingIn (bad rest) = tree [] [] no-trees
 abbrev pub readingOf : String → Tree
 readingOf s = readingIn (messageP (text s))
 
--- what a reading does to a lane: of texts only the places are told, and they do not matter
+-- what a reading does to a lane: of texts only the places are told, and they do not matter, nor does a ForecastId
 abbrev pub Moves : Lane → Tree → Moved → Type 0
-Moves l t v = (place : Bytes → Words) → received l (eventOf (messageOf (saidOf t .kind) place (childOf t))) ≡ v
+Moves l t v = (place : Bytes → Words) (f : Carried) → received l (eventOf (messageOf (saidOf t .kind) place (childOf t)) f) ≡ v
 
 abbrev pub Holds : Case → Type 0
 Holds (reads s a) = answerOf (text s) ≡ a
@@ -79,7 +80,7 @@ abbrev a : Bytes
 a = text "aaaaaaaa-aaaa-aaaa-aaaa-aaaaaaaaaaaa"
 
 abbrev lane : ℕ → Bytes → Lane
-lane state running = record { side = U; state = state; offered = noId; running = running }
+lane state running = record { side = U; state = state; offered = noId; running = running; forecast = noForecast }
 
 abbrev pub bench : List Case
 bench =
@@ -122,5 +123,5 @@ All [] = Unit {0}
 All (c ∷ l) = Holds c × All l
 
 pub bench-holds : All bench
-unfolding readValue readItem utf8 loopP within digit isChar isGlue letter nameStart nameByte hexDigit worth isQuote banned leading following answerAt answerOf second3 third3 second4 plainByte charP versionP encodingP yesNoP settingP behindStandaloneP standaloneOrEndP behindEncodingP behindVersionP declarationP closeP elemP leafTagP nodeTagP contentTurnP contentP fillP rootP layoutP messageP live new alive namedP refP itemP VturnP valueP endP quotedP equalsP attrP AturnP headP begun okay numberP table tried refusalOf intOf signed sized trim dropBack dropFront keepBefore blank someByte all isDigit valueFrom judged guidOf filled may hex idOf messageFrom fieldsIn fieldFor numberOf parted unsigned decimal written short above millionths before behind received sameId next byRows chart
-bench-holds = (refl, ((refl, refl, refl, refl), (refl, (refl, ((refl, refl, refl, refl), (refl, (refl, (refl, (refl, (refl, (refl, (refl, (refl, (refl, (refl, (refl, ((refl, refl, λ place. refl), ((refl, refl, λ place. refl), tt))))))))))))))))))
+unfolding readValue readItem utf8 loopP within digit isChar isGlue letter nameStart nameByte hexDigit worth isQuote banned leading following answerAt answerOf second3 third3 second4 plainByte charP versionP encodingP yesNoP settingP behindStandaloneP standaloneOrEndP behindEncodingP behindVersionP declarationP closeP elemP leafTagP nodeTagP contentTurnP contentP fillP rootP layoutP messageP live new alive namedP refP itemP VturnP valueP endP quotedP equalsP attrP AturnP headP begun okay numberP table tried refusalOf intOf signed sized trim dropBack dropFront keepBefore blank someByte all isDigit valueFrom judged guidOf filled may hex idOf messageFrom fieldsOf withZeros cellsOf fieldsFrom fieldBy guidBy fieldsIn fieldFor numberOf parted unsigned decimal written short above millionths before behind received sameId righted next byRows chart
+bench-holds = (refl, ((refl, refl, refl, refl), (refl, (refl, ((refl, refl, refl, refl), (refl, (refl, (refl, (refl, (refl, (refl, (refl, (refl, (refl, (refl, (refl, ((refl, refl, λ place f. refl), ((refl, refl, λ place f. refl), tt))))))))))))))))))

@@ -1,4 +1,3 @@
-pub mod Ids
 pub mod Receiving
 pub mod Sending
 pub mod Runs

@@ -5,7 +5,7 @@ use Rattle.lane.specs.Names.{U, D}
 use Rattle.lane.specs.Record.{other}
 use Rattle.lane.specs.declared.Lane.{Lane}
 
--- opposite sides, and the same state and ids
+-- opposite sides, and the same state and BoardIds; the ForecastId that a lane keeps is its own
 pub record Mirrored (l l′ : Lane) : Type 0 where
   pub ours : (l .side ≡ U) ⊎ (l .side ≡ D)
   pub theirs : l′ .side ≡ other (l .side)

@@ -15,19 +15,20 @@ use Rattle.value.specs.Text.{Text}
 use Rattle.value.specs.declared.text.Span.{Span}
 use Rattle.value.specs.declared.text.Words.{Words}
 use Rattle.value.specs.declared.text.Words.the-variants.{Present as IsWords}
-use Rattle.message.specs.Cells.{wholeBy, messageBy, Told}
+use Rattle.message.specs.Cells.{wholeBy}
+use Rattle.message.specs.Fields.{theWords, theWhole}
 use Rattle.message.specs.Checked.{Checks}
-use Rattle.message.specs.Fields.{blank}
+use Rattle.message.specs.Messages.{messageBy, blank, called}
 use Rattle.message.specs.declared.checking.Checked.{Checked}
 use Rattle.message.specs.declared.values.Whole.{Whole}
 use Rattle.message.specs.declared.values.Whole.the-variants.{Absent as NoWhole, Present as IsWhole}
-use Rattle.message.specs.declared.kinds.Message.{Message}
+use Rattle.message.specs.declared.cells.Message.{Message}
 use Rattle.meant.specs.Notices.{notice}
 use Rattle.reads.specs.declared.checking.Found.{Found}
 use Rattle.writes.specs.declared.messages.Written.{Written as Count}
 use Rattle.written_back.specs.First.{First, firstIn}
 use Rattle.written_back.specs.Replies.{Reply}
-use Rattle.handover.specs.Ids.{eventOf}
+use Rattle.events.specs.Events.{Carried, eventOf, forecastId, Carries}
 use Rattle.handover.specs.declared.receiving.Receipt.{Receipt}
 use Rattle.handover.specs.declared.receiving.Received.{Received}
 
@@ -37,21 +38,25 @@ isPing NoWhole = false
 isPing (IsWhole n) = eqb n 1
 
 unfoldable pub asksReply : Message → Bool
-asksReply m = eqb (m .kind) CheckAlive && isPing (m .alive .ping)
+asksReply m = eqb (m .kind) CheckAlive && isPing (theWhole (called "Type" m))
+
+-- the Id that a reply has too
+unfoldable pub replyId : Message → Words
+replyId m = theWords (called "Id" m)
 
 -- "Attributes are tried in table order, each for 4, 5, 6; the first decides, then 9": what `check` refuses does not reach the chart. 1 keeps the record.
 abbrev pub movedFor : Lane → ℕ → Event → Moved
 movedFor l n e = cond (eqb n 0) (received l e) (cond (eqb n 1) (kept l 1) (ended l n))
 
-unfoldable pub movedBy : Lane → ℕ → Message → Moved
-movedBy l n m = movedFor l n (eventOf m)
+unfoldable pub movedBy : Lane → ℕ → Event → Moved
+movedBy l n e = movedFor l n e
 
 -- the bytes b that are to be written where the refusal is n: "Notification" for one that ends the connection, the reply to a CheckAlive of Type 1,
 -- and "Nothing else accepted has a reply."
 pub data Owes (s : Bytes) (m : Message) (n : ℕ) (b : Bytes) : Type 0 where
   nothing-yet : n ≡ 1 → b ≡ [] → Owes s m n b
   a-notice : (n ≡ 0 → ⊥) → (n ≡ 1 → ⊥) → b ≡ notice n → Owes s m n b
-  a-reply : n ≡ 0 → asksReply m ≡ true → Reply s (m .alive .id) b → Owes s m n b
+  a-reply : n ≡ 0 → asksReply m ≡ true → Reply s (replyId m) b → Owes s m n b
   no-reply : n ≡ 0 → asksReply m ≡ false → b ≡ [] → Owes s m n b
 
 -- "7 .. replaces the answer that would write them": record and buffer are kept, and no byte is used
@@ -71,22 +76,21 @@ told c v n = record {
 }
 
 -- "7 is given exactly if the bytes to be written, a Notification too, are more than the buffer holds"
-unfoldable pub answerOf : Lane → Checked → Bytes → ℕ → Received
-answerOf l c b room = cond (leb (length b) room) (told c (movedBy l (c .refusal) (c .message)) (length b)) (noRoom l)
+unfoldable pub answerOf : Lane → Checked → Event → Bytes → ℕ → Received
+answerOf l c e b room = cond (leb (length b) room) (told c (movedBy l (c .refusal) e) (length b)) (noRoom l)
 
 -- a lane l, an input s, a buffer that holds `old` before and `new` after: r is answered
 pub record Receives (l : Lane) (s old new : Bytes) (r : Received) : Type 0 where
   pub checked : Checked
   pub checks : Checks s checked
+  pub forecast : Carried
+  pub carries : Carries s (forecastId (checked .message)) forecast
   pub due : Bytes
-  pub owes : Owes s (checked .message) (movedBy l (checked .refusal) (checked .message) .refusal) due
-  pub answer : r ≡ answerOf l checked due (length old)
+  pub owes : Owes s (checked .message) (movedBy l (checked .refusal) (eventOf (checked .message) forecast) .refusal) due
+  pub answer : r ≡ answerOf l checked (eventOf (checked .message) forecast) due (length old)
   pub buffer : new ≡ firstIn due old
 
--- For proofs of inner functions: an Id that `check` let pass, and what is written back.
-abbrev pub Sound : Bytes → Words → Type 0
-Sound s w = (p : Span) → w ≡ IsWords p → (v : Bytes) × Text (take (p .len) (drop (p .start) s)) v × (p .start + p .len ≤ length s) × (length v ≤ 80)
-
+-- For proofs of inner functions: what is written back.
 pub record Written (s : Bytes) (m : Message) (n : ℕ) (old new : Bytes) (w : Count) : Type 0 where
   pub due : Bytes
   pub owes : Owes s m n due
@@ -94,7 +98,7 @@ pub record Written (s : Bytes) (m : Message) (n : ℕ) (old new : Bytes) (w : Co
 
 -- so for each message that asks for a reply or not, and has that Id
 pub record Answers (s : Bytes) (n : ℕ) (asks : Bool) (id : Words) (old new : Bytes) (w : Count) : Type 0 where
-  pub says : (m : Message) → asks ≡ asksReply m → (asks ≡ true → id ≡ m .alive .id) → Written s m n old new w
+  pub says : (m : Message) → asks ≡ asksReply m → (asks ≡ true → id ≡ replyId m) → Written s m n old new w
 
 -- The same with a message's cells and its BoardId instead of the message.
 abbrev pub asksBy : ℕ → ℕ → ℕ → Bool
@@ -126,7 +130,6 @@ receivedBy r cells = record {
   message = messageBy (r .kind) cells (r .id);
 }
 
--- it is what receiving answers, and the cells and the id are told as that message is
-pub record ReceivesInto (l : Lane) (s old new : Bytes) (cells : List ℕ) (r : Receipt) : Type 0 where
-  pub receives : Receives l s old new (receivedBy r cells)
-  pub told-so : Told (r .kind) cells (r .id)
+-- it is what receiving answers
+abbrev pub ReceivesInto : Lane → Bytes → Bytes → Bytes → List ℕ → Receipt → Type 0
+ReceivesInto l s old new cells r = Receives l s old new (receivedBy r cells)

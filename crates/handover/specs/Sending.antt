@@ -10,10 +10,10 @@ use Rattle.lane.specs.Record.{sent}
 use Rattle.lane.specs.declared.Lane.{Lane}
 use Rattle.lane.specs.declared.Moved.{Moved}
 use Rattle.grammar.specs.Bytes.{Bytes}
-use Rattle.message.specs.declared.kinds.Message.{Message}
+use Rattle.message.specs.declared.cells.Message.{Message}
 use Rattle.meant.specs.Meant.{refusalOf}
 use Rattle.meant.specs.Written.{writtenOf}
-use Rattle.handover.specs.Ids.{eventOf}
+use Rattle.events.specs.Events.{eventSent}
 use Rattle.handover.specs.declared.sending.Sent.{Sent}
 
 -- "every refusal keeps record and buffer"
@@ -21,8 +21,8 @@ abbrev pub kept : Lane → ℕ → Sent
 kept l n = record { refusal = n; lane = l; order = NoOrder; written = 0 }
 
 -- what the message does to the lane
-abbrev pub movedBy : Lane → Message → Moved
-movedBy l m = sent l (eventOf m)
+abbrev pub movedBy : Lane → Message → Bytes → Moved
+movedBy l m texts = sent l (eventSent m texts)
 
 -- the refusal of a message that may not be sent: "4, 5, 6 in table order, then 8"
 unfoldable pub mayNot : Message → Bytes → ℕ
@@ -32,12 +32,12 @@ mayNot m texts = cond (eqb (refusalOf m texts) 0) MayNotBeSent (refusalOf m text
 abbrev pub decided : {A : Type 0} → Lane → Message → Bytes → ℕ → A → (ℕ → A) → A
 decided l m texts room a b =
     cond (eqb (refusalOf m texts) 0)
-    (cond (eqb (movedBy l m .refusal) 0) (cond (leb (length (writtenOf m texts)) room) a (b 7)) (b MayNotBeSent))
+    (cond (eqb (movedBy l m texts .refusal) 0) (cond (leb (length (writtenOf m texts)) room) a (b 7)) (b MayNotBeSent))
     (b (refusalOf m texts))
 
 unfoldable pub answerOf : Lane → Message → Bytes → ℕ → Sent
 answerOf l m texts room =
-    decided l m texts room (record { refusal = 0; lane = movedBy l m .lane; order = movedBy l m .order; written = length (writtenOf m texts) }) (kept l)
+    decided l m texts room (record { refusal = 0; lane = movedBy l m texts .lane; order = movedBy l m texts .order; written = length (writtenOf m texts) }) (kept l)
 
 -- "message first, rest kept"
 unfoldable pub bufferOf : Lane → Message → Bytes → Bytes → Bytes

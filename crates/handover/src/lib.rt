@@ -1,5 +1,4 @@
 // The public calls of a lane: a message is received or sent, and the record, the belt order and the buffer follow.
-mod ids;
 mod receiving;
 mod sending;
 

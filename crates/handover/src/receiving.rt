@@ -2,18 +2,20 @@
 ghost use mathlib.Core.Path.{_≡_};
 ghost use mathlib.Core.Bool.{true};
 ghost use lib.ListN.{replicate};
-ghost use Rattle.message.specs.Cells.{NUMBERS};
-ghost use Rattle.handover.specs.Receiving.{asksBy, movedFor, noReceipt, refusedBy, toldBy, Sound, Answers, Finishes, Receives, ReceivesInto};
+ghost use Rattle.message.specs.Cells.{NUMBERS as MANY};
+ghost use Rattle.events.specs.Says.{Sound};
+ghost use Rattle.handover.specs.Receiving.{asksBy, movedFor, noReceipt, refusedBy, toldBy, Answers, Finishes, Receives, ReceivesInto};
+use cells::clear;
+use cells::text_from;
+use events::received_event;
 use lane::Event;
 use lane::Kind;
 use lane::Lane;
 use lane::Moved;
 use lane::Order;
-use message::kinds::Message;
+use message::Message;
+use message::cells::NUMBERS;
 use reads::Found;
-use structs::clear;
-use structs::message_of;
-use structs::text_from;
 use value::Words;
 use writes::Written;
 
@@ -163,12 +165,12 @@ fn finish(lane: Lane, f: Found, moved: Moved, w: Written, cells: &mut [u64]) -> 
 /// Receives the message that stands first in s, behind glue: checks it, moves the lane, and writes the Notification of a refusal or the
 /// reply to a CheckAlive first into the buffer. What an accepted message says stands in the cells then; else they stay zeros.
 pub fn receive_into(lane: Lane, s: &[u8], out: &mut [u8], cells: &mut [u64]) -> Receipt
-    requires { ⌜ now cells ≡ replicate NUMBERS 0 ⌝ }
+    requires { ⌜ now cells ≡ replicate MANY 0 ⌝ }
     ensures { λ r. ⌜ ReceivesInto lane (now (s .entry)) (now (out .entry)) (now (out .exit)) (now (cells .exit)) r ⌝ }
 {
     let f = reads::check_into(s, &mut *cells);
     let id = f.id;
-    let event = Event { kind: f.kind, id };
+    let event = received_event(s, f.kind, &*cells, id);
     let moved = moved_by(lane, f.refusal, event);
     let asks = asks_reply(f.kind, cells[0], cells[1]);
     let alive = text_from(cells[3], cells[4], cells[5]);
@@ -181,11 +183,15 @@ pub fn receive_into(lane: Lane, s: &[u8], out: &mut [u8], cells: &mut [u64]) -> 
 pub fn receive(lane: Lane, s: &[u8], out: &mut [u8]) -> Received
     ensures { λ r. ⌜ Receives lane (now (s .entry)) (now (out .entry)) (now (out .exit)) r ⌝ }
 {
-    let mut cells = [0u64; 72];
+    let mut cells = [0u64; NUMBERS];
     let r = receive_into(lane, s, out, &mut cells);
     let next = r.lane;
     let id = r.id;
-    let message = message_of(r.kind, &cells, id);
+    let message = Message {
+        kind: r.kind,
+        cells: cells,
+        id: id,
+    };
     Received {
         refusal: r.refusal,
         lane: next,

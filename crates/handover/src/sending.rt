@@ -1,15 +1,15 @@
 // Sending: whether a message may be sent, what it does to the lane, and its bytes.
 ghost use mathlib.Core.Path.{_≡_};
-ghost use Rattle.message.specs.Cells.{messageBy};
 ghost use Rattle.handover.specs.Sending.{kept as keptBy, mayNot, Sends};
-use crate::ids::named_id;
-use lane::Event;
+ghost use Rattle.message.specs.Messages.{messageBy};
+ghost use Rattle.writes.specs.Writes.{Writes};
+use cells::named_id;
+use events::sent_event;
 use lane::Lane;
 use lane::Order;
 use lane::Refusal;
-use message::kinds::Message;
-use structs::id_of;
-use structs::lay;
+use message::Message;
+use writes::Written;
 
 /// What sending answers: the refusal; the lane after it and the belt order; and how many bytes of the buffer are written.
 pub struct Sent {
@@ -32,14 +32,21 @@ fn kept(lane: Lane, refusal: u8) -> Sent
 }
 
 // The refusal of a message without a transition: 4, 5, 6 decide before 8.
-fn may_not(kind: u8, cells: &[u64], id: &[u8], texts: &[u8]) -> u8
-    ensures { λ r. ⌜ r ≡ mayNot (messageBy kind (now (cells .entry)) (now (id .entry))) (now (texts .entry)) ⌝ }
+fn may_not(kind: u8, cells: &[u64], id: [u8; 36], texts: &[u8]) -> u8
+    ensures { λ r. ⌜ r ≡ mayNot (messageBy kind (now (cells .entry)) id) (now (texts .entry)) ⌝ }
 {
-    let r = writes::refusal_of_cells(kind, cells, id, texts);
+    let r = writes::refusal_of_cells(kind, cells, &id, texts);
     if r != 0 {
         return r;
     }
     Refusal::MAY_NOT_BE_SENT
+}
+
+// The message's bytes, first in the buffer.
+fn put(kind: u8, cells: &[u64], id: [u8; 36], texts: &[u8], out: &mut [u8]) -> Written
+    ensures { λ r. ⌜ Writes (messageBy kind (now (cells .entry)) id) (now (texts .entry)) (now (out .entry)) (now (out .exit)) r ⌝ }
+{
+    writes::write_cells(kind, cells, &id, texts, out)
 }
 
 /// Sends the message of a kind that these cells and this BoardId are, whose texts are parts of `texts`: it stands first in the buffer, and the lane
@@ -55,12 +62,12 @@ pub fn send_from(
     ensures { λ r. ⌜ Sends lane (messageBy kind (now (cells .entry)) id) (now (texts .entry)) (now (out .entry)) (now (out .exit)) r ⌝ }
 {
     let named = named_id(kind, cells, id);
-    let event = Event { kind, id: named };
+    let event = sent_event(kind, cells, named, texts);
     let moved = lane.sent(event);
     if moved.refusal != 0 {
-        return kept(lane, may_not(kind, cells, &id, texts));
+        return kept(lane, may_not(kind, cells, id, texts));
     }
-    let w = writes::write_cells(kind, cells, &id, texts, out);
+    let w = put(kind, cells, id, texts, out);
     if w.refusal != 0 {
         return kept(lane, w.refusal);
     }
@@ -77,8 +84,7 @@ pub fn send_from(
 pub fn send(lane: Lane, m: Message, texts: &[u8], out: &mut [u8]) -> Sent
     ensures { λ r. ⌜ Sends lane m (now (texts .entry)) (now (out .entry)) (now (out .exit)) r ⌝ }
 {
-    let mut cells = [0u64; 72];
-    lay(m, &mut cells);
-    let id = id_of(m);
+    let cells = m.cells;
+    let id = m.id;
     send_from(lane, m.kind, &cells, id, texts, out)
 }

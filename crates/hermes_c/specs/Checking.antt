@@ -4,8 +4,8 @@ use mathlib.Core.List.{List}
 use Prim.Native.Nat.{ℕ}
 use Rattle.grammar.specs.Bytes.{Bytes}
 use Rattle.message.specs.Checked.{Checks}
+use Rattle.message.specs.Messages.{numbersOf}
 use Rattle.message.specs.declared.checking.Checked.{Checked}
-use Rattle.message.specs.Cells.{numbersOf, idOf}
 
 pub record Finds (s : Bytes) (refusal start end place : ℕ) (numbers : List ℕ) (id : Bytes) : Type 0 where
   pub found : Checked
@@ -15,4 +15,4 @@ pub record Finds (s : Bytes) (refusal start end place : ℕ) (numbers : List ℕ
   pub ends : end ≡ found .end
   pub places : place ≡ found .place
   pub says : numbers ≡ numbersOf (found .message)
-  pub names : id ≡ idOf (found .message)
+  pub names : id ≡ found .message .id

@@ -7,16 +7,16 @@ use Rattle.lane.specs.declared.Lane.{Lane}
 use Rattle.handover.specs.Receiving.{Receives}
 use Rattle.handover.specs.declared.receiving.Received.{Received}
 use Rattle.hermes_c.specs.Lanes.{Lent}
-use Rattle.message.specs.Cells.{numbersOf, idOf}
+use Rattle.message.specs.Messages.{numbersOf}
 
 -- a lane l, an input s, a buffer that holds `old` before and `new` after; the side is the lane's own
-pub record ReceivesAs (l : Lane) (s old new : Bytes) (refusal state : ℕ) (offered running : Bytes) (numbers : List ℕ) (id : Bytes) (order used written place : ℕ) : Type 0 where
+pub record ReceivesAs (l : Lane) (s old new : Bytes) (refusal state : ℕ) (offered running : Bytes) (length : ℕ) (forecast : Bytes) (numbers : List ℕ) (id : Bytes) (order used written place : ℕ) : Type 0 where
   pub received : Received
   pub receives : Receives l s old new received
   pub refuses : refusal ≡ received .refusal
-  pub after : Lent (received .lane) (l .side) state offered running
+  pub after : Lent (received .lane) (l .side) state offered running length forecast
   pub says : numbers ≡ numbersOf (received .message)
-  pub names : id ≡ idOf (received .message)
+  pub names : id ≡ received .message .id
   pub orders : order ≡ received .order
   pub uses : used ≡ received .used
   pub writes : written ≡ received .written

@@ -1,6 +1,6 @@
 // What a message says.
 ghost use Rattle.hermes_c.specs.Checking.{Finds};
-use structs::NUMBERS;
+use cells::NUMBERS;
 
 /// What the message behind the glue says: the refusal; the message's numbers and its BoardId; where it starts and ends; and the place that is
 /// malformed. What there is none of is 0.

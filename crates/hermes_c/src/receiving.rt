@@ -1,8 +1,9 @@
 // Receiving a message.
 ghost use Rattle.hermes_c.specs.Lanes.{laneOf};
 ghost use Rattle.hermes_c.specs.Receiving.{ReceivesAs};
+use cells::NUMBERS;
+use lane::Forecast;
 use lane::Lane;
-use structs::NUMBERS;
 
 /// Receives the message that stands first in the bytes, behind glue: checks it, moves the lane, and writes the Notification of a refusal or the
 /// reply to a CheckAlive first into the buffer. Answers the refusal; the belt order; how many of the bytes are used, and how many of the buffer
@@ -13,6 +14,8 @@ pub extern "C" fn tryphomel_receive(
     state: &mut u8,
     offered: &mut [u8; 36],
     running: &mut [u8; 36],
+    length: &mut u8,
+    forecast: &mut [u8; 80],
     bytes: &[u8],
     out: &mut [u8],
     numbers: &mut [u64; NUMBERS],
@@ -22,15 +25,21 @@ pub extern "C" fn tryphomel_receive(
     written: &mut u64,
     place: &mut u64,
 ) -> u8
-    ensures { λ r. ⌜ ReceivesAs (laneOf side (now (state .entry)) (now (offered .entry)) (now (running .entry))) (now (bytes .entry)) (now (out .entry)) (now (out .exit)) r (now (state .exit)) (now (offered .exit)) (now (running .exit)) (now (numbers .exit)) (now (id .exit)) (now (order .exit)) (now (used .exit)) (now (written .exit)) (now (place .exit)) ⌝ }
+    ensures { λ r. ⌜ ReceivesAs (laneOf side (now (state .entry)) (now (offered .entry)) (now (running .entry)) (now (length .entry)) (now (forecast .entry))) (now (bytes .entry)) (now (out .entry)) (now (out .exit)) r (now (state .exit)) (now (offered .exit)) (now (running .exit)) (now (length .exit)) (now (forecast .exit)) (now (numbers .exit)) (now (id .exit)) (now (order .exit)) (now (used .exit)) (now (written .exit)) (now (place .exit)) ⌝ }
 {
     let o = *offered;
     let r = *running;
+    let f = *forecast;
+    let kept = Forecast {
+        length: *length,
+        bytes: f,
+    };
     let lane = Lane {
         side: side,
         state: *state,
         offered: o,
         running: r,
+        forecast: kept,
     };
     let mut all = [0u64; NUMBERS];
     let a = handover::receive_into(lane, bytes, out, &mut all[1..]);
@@ -39,9 +48,13 @@ pub extern "C" fn tryphomel_receive(
     let b = a.id;
     let o = next.offered;
     let r = next.running;
+    let kept = next.forecast;
+    let f = kept.bytes;
     *state = next.state;
     *offered = o;
     *running = r;
+    *length = kept.length;
+    *forecast = f;
     *numbers = all;
     *id = b;
     *order = a.order;

@@ -1,10 +1,11 @@
 // Sending a message.
 ghost use Rattle.hermes_c.specs.Lanes.{laneOf};
-ghost use Rattle.message.specs.Cells.{messageOf};
 ghost use Rattle.hermes_c.specs.Sending.{SendsAs};
+ghost use Rattle.message.specs.Messages.{messageOf};
+use cells::NUMBERS;
+use cells::kind_in;
+use lane::Forecast;
 use lane::Lane;
-use structs::NUMBERS;
-use structs::kind_in;
 
 /// Sends the message of these numbers and this BoardId, whose texts are parts of `texts`: it stands first in the buffer, and the lane is moved.
 /// Every refusal keeps both. Answers the refusal; the belt order; and how many bytes of the buffer are written.
@@ -14,6 +15,8 @@ pub extern "C" fn tryphomel_send(
     state: &mut u8,
     offered: &mut [u8; 36],
     running: &mut [u8; 36],
+    length: &mut u8,
+    forecast: &mut [u8; 80],
     numbers: &[u64; NUMBERS],
     id: &[u8; 36],
     texts: &[u8],
@@ -21,15 +24,21 @@ pub extern "C" fn tryphomel_send(
     order: &mut u8,
     written: &mut u64,
 ) -> u8
-    ensures { λ r. ⌜ SendsAs (laneOf side (now (state .entry)) (now (offered .entry)) (now (running .entry))) (messageOf (now (numbers .entry)) (now (id .entry))) (now (texts .entry)) (now (out .entry)) (now (out .exit)) r (now (state .exit)) (now (offered .exit)) (now (running .exit)) (now (order .exit)) (now (written .exit)) ⌝ }
+    ensures { λ r. ⌜ SendsAs (laneOf side (now (state .entry)) (now (offered .entry)) (now (running .entry)) (now (length .entry)) (now (forecast .entry))) (messageOf (now (numbers .entry)) (now (id .entry))) (now (texts .entry)) (now (out .entry)) (now (out .exit)) r (now (state .exit)) (now (offered .exit)) (now (running .exit)) (now (length .exit)) (now (forecast .exit)) (now (order .exit)) (now (written .exit)) ⌝ }
 {
     let o = *offered;
     let r = *running;
+    let f = *forecast;
+    let kept = Forecast {
+        length: *length,
+        bytes: f,
+    };
     let lane = Lane {
         side: side,
         state: *state,
         offered: o,
         running: r,
+        forecast: kept,
     };
     let all = *numbers;
     let kind = kind_in(all);
@@ -38,9 +47,13 @@ pub extern "C" fn tryphomel_send(
     let next = a.lane;
     let o = next.offered;
     let r = next.running;
+    let kept = next.forecast;
+    let f = kept.bytes;
     *state = next.state;
     *offered = o;
     *running = r;
+    *length = kept.length;
+    *forecast = f;
     *order = a.order;
     *written = a.written as u64;
     a.refusal

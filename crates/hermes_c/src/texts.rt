@@ -1,6 +1,6 @@
 // A text of a message for C: the refusal, and which bytes the text is.
 ghost use Rattle.hermes_c.specs.Texts.{TextTold};
-use structs::text_from;
+use cells::text_from;
 use value::TextAt;
 
 /// The text of the raw value that stands at `start`, `len` bytes long, or is absent if `there` is 0. It returns the refusal.

@@ -1,21 +1,21 @@
 -- Two ids compared byte by byte, from a place on.
-use mathlib.Core.Path.{_≡_}
+use mathlib.Core.Path.{_≡_, ap}
 use mathlib.Core.List.{List}
 use mathlib.Core.Bool.{true, false}
 use Prim.Native.Nat.{ℕ, _+_, _<_, _≤_}
-use native.Mathlib.Omega.{arith}
 use native.Mathlib.Numerals.{add-one}
 use lib.ListN.{length, drop, getD, drop-of-length-le}
 use lib.Seq.{drop-cons}
 use borrow.Author.Tests.{eq-eqb, ne-eqb}
-use Rattle.lane.specs.Record.{sameId}
+use Rattle.lane.specs.Ids.{sameId}
+use Rattle.lane.specs.IdLaws.{same-false}
 
-pub same-end : (a b : List ℕ) → length a ≤ 36 → length b ≤ 36 → (i : ℕ) → 36 ≤ i → sameId (drop i a) (drop i b) ≡ true
+pub same-end : (a b : List ℕ) (i : ℕ) → length a ≤ i → length b ≤ i → sameId (drop i a) (drop i b) ≡ true
 unfolding sameId
-same-end a b ha hb i h =
-    let za : length a ≤ i = omega arith in
-    let zb : length b ≤ i = omega arith in
-    rw (drop-of-length-le a za, drop-of-length-le b zb)
+same-end a b i ha hb = rw (drop-of-length-le a ha, drop-of-length-le b hb)
+
+pub same-long : (a b : List ℕ) → (length a ≡ length b → ⊥) → sameId a b ≡ false
+same-long a b h = same-false a b (λ e. h (ap length e))
 
 module _ (a b : List ℕ) (i : ℕ) (ha : i < length a) (hb : i < length b) where
   pub same-step : getD a i 0 ≡ getD b i 0 → sameId (drop i a) (drop i b) ≡ sameId (drop (i + 1) a) (drop (i + 1) b)

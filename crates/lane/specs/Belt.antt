@@ -7,7 +7,7 @@ use mathlib.Core.Logic.{_⊎_, ⊎-elim}
 use Prim.Native.Nat.{ℕ}
 use Rattle.lane.specs.Names.{U, D, Ready, Both, Transporting, Stopped, RevokeBoardAvailable, StartTransport, StopTransport, TransportFinished, NoOrder, Run, Cancel, Accepted, MayNotBeSent, ProtocolError}
 use Rattle.lane.specs.Chart.{Received, Sent, chart, byRows, next}
-use Rattle.lane.specs.Record.{noId, carriesOwn, ended, kept, other, received, sent}
+use Rattle.lane.specs.Record.{noId, carriesOwn, ended, kept, ordinary, other, received, sent}
 use Rattle.lane.specs.Laws.{same-refl, same-false, received-by, sent-by}
 use Rattle.lane.specs.declared.Event.{Event}
 use Rattle.lane.specs.declared.Lane.{Lane}
@@ -16,12 +16,7 @@ use Rattle.lane.specs.declared.chart.Step.the-variants.{To, NoTransition
 
 -- A transport that was started with an id and an order.
 abbrev pub started : Lane → List ℕ → ℕ → Moved
-started l id order =
-    record {
-      refusal = Accepted;
-      lane = record { side = l .side; state = Transporting; offered = noId; running = id };
-      order = order;
-    }
+started l id order = record { refusal = Accepted; lane = ordinary l Transporting noId id; order = order }
 
 -- What the chart says of the messages in question.
 start-ready : (same : Bool) → next Ready StartTransport D Received same ≡ To Transporting
@@ -102,12 +97,7 @@ module _ (l : Lane) (e : Event) where
 
   -- "Transporting, Stopped (received only) | RevokeBoardAvailable U | same"
   abbrev pub unmoved : Moved
-  unmoved =
-      record {
-        refusal = Accepted;
-        lane = record { side = l .side; state = l .state; offered = noId; running = l .running };
-        order = NoOrder;
-      }
+  unmoved = record { refusal = Accepted; lane = ordinary l (l .state) noId (l .running); order = NoOrder }
 
   pub late-revoke-transporting : e .kind ≡ RevokeBoardAvailable → l .side ≡ D → l .state ≡ Transporting → received l e ≡ unmoved
   late-revoke-transporting k es et = received-by l e (To Transporting) (rw (et, es, k) (revoke-transporting _)) ∙ rw (et, k)

@@ -3,7 +3,7 @@ use mathlib.Core.List.{List, [], _∷_}
 use mathlib.Core.Bool.{Bool, true, false}
 use Prim.Native.Nat.{ℕ}
 use lib.Dec.{eqb}
-use Rattle.lane.specs.Names.{U, D, NotConnected, DescribedDown, Idle, Offered, Ready, Both, Transporting, Stopped, Finished, Unknown, ServiceDescription, Notification, BoardAvailable, RevokeBoardAvailable, MachineReady, RevokeMachineReady, StartTransport, StopTransport, TransportFinished, CheckAlive}
+use Rattle.lane.specs.Names.{U, D, NotConnected, DescribedDown, Idle, Offered, Ready, Both, Transporting, Stopped, Finished, Unknown, ServiceDescription, Notification, BoardAvailable, RevokeBoardAvailable, MachineReady, RevokeMachineReady, StartTransport, StopTransport, TransportFinished, CheckAlive, BoardForecast}
 use Rattle.lane.specs.declared.chart.Step.{Step}
 use Rattle.lane.specs.declared.chart.Step.the-variants.{To, NoTransition}
 
@@ -68,6 +68,11 @@ chart =
     Stopped · RevokeBoardAvailable receivedFrom U ⇒ Stopped ∷
     Stopped · TransportFinished from U ⇒ Idle ∷
     Finished · StopTransport from D ⇒ Idle ∷
+    -- order 3: "It is sent in Idle and Ready only. Received, it is also taken in Transporting and Stopped"
+    Idle · BoardForecast from U ⇒ Idle ∷
+    Ready · BoardForecast from U ⇒ Ready ∷
+    Transporting · BoardForecast receivedFrom U ⇒ Transporting ∷
+    Stopped · BoardForecast receivedFrom U ⇒ Stopped ∷
     []
 
 -- A row is for a state and a message of its sender; one that is "received only" not for a sent one.

@@ -4,15 +4,16 @@ use mathlib.Core.List.{List, [], _∷_, _++_}
 use mathlib.Core.Bool.{Bool, true, false}
 use Prim.Native.Nat.{ℕ}
 use lib.ListN.{replicate}
-use Rattle.lane.specs.Names.{U, D, NotConnected, DescribedDown, Idle, Offered, Ready, Both, Transporting, Stopped, Finished, Unknown, ServiceDescription, Notification, BoardAvailable, RevokeBoardAvailable, MachineReady, RevokeMachineReady, StartTransport, StopTransport, TransportFinished, CheckAlive, NoOrder, Run, Cancel, StopNow, Accepted, MayNotBeSent, ProtocolError}
-use Rattle.lane.specs.Record.{noId, sameId, fresh, blank, offeredUsed, runningUsed, offeredIn, runningIn, carriesOwn, startOrder, endOrder, ended, other}
+use Rattle.lane.specs.Names.{U, D, NotConnected, DescribedDown, Idle, Offered, Ready, Both, Transporting, Stopped, Finished, Unknown, ServiceDescription, Notification, BoardAvailable, RevokeBoardAvailable, MachineReady, RevokeMachineReady, StartTransport, StopTransport, TransportFinished, CheckAlive, BoardForecast, NoOrder, Run, Cancel, StopNow, Accepted, MayNotBeSent, ProtocolError}
+use Rattle.lane.specs.Record.{noId, sameId, noForecast, righted, sameForecast, fresh, blank, offeredUsed, runningUsed, forecastUsed, offeredIn, runningIn, carriesOwn, startOrder, endOrder, ended, other}
 use Rattle.lane.specs.Bench.{event}
 use Rattle.lane.specs.declared.Lane.{Lane}
+use Rattle.lane.specs.declared.ids.Forecast.{Forecast}
 
 -- the kinds have the attribute table's numbers, orders and refusals those of their tables; the states go in the chart's order, from 0
 pub numbers :
-    (Unknown ∷ ServiceDescription ∷ Notification ∷ BoardAvailable ∷ RevokeBoardAvailable ∷ MachineReady ∷ RevokeMachineReady ∷ StartTransport ∷ StopTransport ∷ TransportFinished ∷ CheckAlive ∷ []
-    ≡ 0 ∷ 1 ∷ 2 ∷ 3 ∷ 4 ∷ 5 ∷ 6 ∷ 7 ∷ 8 ∷ 9 ∷ 10 ∷ [])
+    (Unknown ∷ ServiceDescription ∷ Notification ∷ BoardAvailable ∷ RevokeBoardAvailable ∷ MachineReady ∷ RevokeMachineReady ∷ StartTransport ∷ StopTransport ∷ TransportFinished ∷ CheckAlive ∷ BoardForecast ∷ []
+    ≡ 0 ∷ 1 ∷ 2 ∷ 3 ∷ 4 ∷ 5 ∷ 6 ∷ 7 ∷ 8 ∷ 9 ∷ 10 ∷ 11 ∷ [])
     × (NotConnected ∷ DescribedDown ∷ Idle ∷ Offered ∷ Ready ∷ Both ∷ Transporting ∷ Stopped ∷ Finished ∷ [] ≡ 0 ∷ 1 ∷ 2 ∷ 3 ∷ 4 ∷ 5 ∷ 6 ∷ 7 ∷ 8 ∷ [])
     × (NoOrder ∷ Run ∷ Cancel ∷ StopNow ∷ [] ≡ 0 ∷ 1 ∷ 2 ∷ 3 ∷ [])
     × (Accepted ∷ MayNotBeSent ∷ ProtocolError ∷ [] ≡ 0 ∷ 8 ∷ 9 ∷ [])
@@ -23,11 +24,12 @@ numbers = (refl, refl, refl, refl, refl)
 abbrev each : {A : Type 0} → (ℕ → A) → List A
 each f = f 0 ∷ f 1 ∷ f 2 ∷ f 3 ∷ f 4 ∷ f 5 ∷ f 6 ∷ f 7 ∷ f 8 ∷ f 9 ∷ []
 
--- "The offered id is in use in Offered and Both, the running id .. in the last three states."
+-- "The offered id is in use in Offered and Both, the running id .. in the last three states."; a forecast from Idle on
 pub ids-in-use :
     (each offeredUsed ≡ false ∷ false ∷ false ∷ true ∷ false ∷ true ∷ false ∷ false ∷ false ∷ false ∷ [])
     × (each runningUsed ≡ false ∷ false ∷ false ∷ false ∷ false ∷ false ∷ true ∷ true ∷ true ∷ false ∷ [])
-ids-in-use = (refl, refl)
+    × (each forecastUsed ≡ false ∷ false ∷ true ∷ true ∷ true ∷ true ∷ true ∷ true ∷ true ∷ false ∷ [])
+ids-in-use = (refl, refl, refl)
 
 -- "stop now, is given when a refusal that ends the connection meets Transporting, Stopped or Finished. Otherwise 0."
 pub end-orders : each endOrder ≡ 0 ∷ 0 ∷ 0 ∷ 0 ∷ 0 ∷ 0 ∷ 3 ∷ 3 ∷ 3 ∷ 0 ∷ []
@@ -58,9 +60,28 @@ pub ids :
 unfolding sameId
 ids = (refl, refl, refl, refl, refl, refl)
 
+-- "with a length, zeros behind": 80 bytes of which a length counts; a length above 80 is none
+abbrev forecast : ℕ → List ℕ → Forecast
+forecast n bytes = record { length = n; bytes = bytes }
+
+abbrev full : List ℕ
+full = replicate 80 97
+
+pub forecast-ids :
+    (noForecast ≡ forecast 0 (replicate 80 0))
+    × (righted (forecast 0 full) ≡ noForecast)
+    × (righted (forecast 3 full) ≡ forecast 3 (97 ∷ 97 ∷ 97 ∷ replicate 77 0))
+    × (righted (forecast 80 full) ≡ forecast 80 full)
+    × (righted (forecast 81 full) ≡ noForecast)
+    × (sameForecast (forecast 3 full) (forecast 3 full) ≡ true)
+    × (sameForecast (forecast 3 full) (forecast 4 full) ≡ false)
+    × (sameForecast (forecast 3 full) (forecast 3 (97 ∷ 97 ∷ 98 ∷ replicate 77 97)) ≡ false)
+unfolding righted sameId
+forecast-ids = (refl, refl, refl, refl, refl, refl, refl, refl)
+
 -- a lane with both ids, in a state
 abbrev lane : ℕ → Lane
-lane s = record { side = D; state = s; offered = a; running = b }
+lane s = record { side = D; state = s; offered = a; running = b; forecast = noForecast }
 
 -- BoardAvailable names the offered id, StartTransport the running one; another message keeps the one in use, and none is kept out of use
 pub ids-in :
@@ -95,7 +116,7 @@ start-orders = (refl, refl, refl, refl, refl)
 
 -- "A new lane of either side starts as NotConnected, and a lost connection brings it back there", with the ids zero
 pub starts :
-    (fresh U ≡ record { side = 1; state = 0; offered = replicate 36 0; running = replicate 36 0 })
+    (fresh U ≡ record { side = 1; state = 0; offered = replicate 36 0; running = replicate 36 0; forecast = noForecast })
     × (blank (lane Both) ≡ fresh D)
     × (ended (lane Stopped) 4 ≡ record { refusal = 4; lane = fresh D; order = 3 })
     × (ended (lane Both) 9 ≡ record { refusal = 9; lane = fresh D; order = 0 })

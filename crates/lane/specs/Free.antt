@@ -4,7 +4,7 @@ use mathlib.Core.Bool.{Bool}
 use Prim.Native.Nat.{ℕ}
 use Rattle.lane.specs.Names.{Unknown, Notification, CheckAlive, NoOrder, Accepted, MayNotBeSent}
 use Rattle.lane.specs.Chart.{pick, Received, Sent, next}
-use Rattle.lane.specs.Record.{noId, offeredUsed, runningUsed, kept, received, sent}
+use Rattle.lane.specs.Record.{noId, offeredUsed, runningUsed, kept, ordinary, received, sent}
 use Rattle.lane.specs.Laws.{received-by, sent-by}
 use Rattle.lane.specs.declared.Event.{Event}
 use Rattle.lane.specs.declared.Lane.{Lane}
@@ -16,12 +16,7 @@ abbrev pub passed : Lane → Moved
 passed l =
     record {
       refusal = Accepted;
-      lane = record {
-        side = l .side;
-        state = l .state;
-        offered = pick (offeredUsed (l .state)) (l .offered) noId;
-        running = pick (runningUsed (l .state)) (l .running) noId;
-      };
+      lane = ordinary l (l .state) (pick (offeredUsed (l .state)) (l .offered) noId) (pick (runningUsed (l .state)) (l .running) noId);
       order = NoOrder;
     }
 

@@ -1,7 +1,8 @@
--- Document 01, "The lane".
+-- Document 01, "The lane", with order 3.
 -- What is defined, to be read in this order:
 pub mod Names
 pub mod Chart
+pub mod Ids
 pub mod Record
 -- Theorems about it:
 pub mod ChartExact
@@ -10,10 +11,14 @@ pub mod IdsZero
 pub mod Belt
 pub mod Orders
 pub mod Free
+pub mod Forecasts
+pub mod LastForecast
+pub mod UpstreamNone
 pub mod Bench
 pub mod Examples
 pub mod Only
 -- For proofs only:
 pub mod Laws
+pub mod IdLaws
 pub mod OrderLaws
 pub mod Entry

@@ -70,6 +70,9 @@ TransportFinished = 9
 abbrev pub CheckAlive : ℕ
 CheckAlive = 10
 
+abbrev pub BoardForecast : ℕ
+BoardForecast = 11
+
 -- Belt orders: "run (1)", "cancel (2)", "Belt order 3, stop now", "Otherwise 0".
 abbrev pub NoOrder : ℕ
 NoOrder = 0

@@ -2,13 +2,17 @@
 use mathlib.Core.Path.{_≡_, sym, _∙_}
 use Prim.Native.Nat.{ℕ}
 use Rattle.lane.specs.Names.{U, D}
-use Rattle.lane.specs.Record.{fresh, blank, ended, received, sent}
+use Rattle.lane.specs.Record.{noForecast, fresh, blank, ended, received, sent}
 use Rattle.lane.specs.declared.Event.{Event}
 use Rattle.lane.specs.declared.Lane.{Lane}
 use Rattle.lane.specs.declared.Moved.{Moved}
+use Rattle.lane.specs.declared.ids.Forecast.{Forecast}
 
 only : {A : Type 0} {x a b : A} → a ≡ x → b ≡ x → a ≡ b
 only p q = p ∙ sym q
+
+pub none-only : (a b : Forecast) → a ≡ noForecast → b ≡ noForecast → a ≡ b
+none-only a b = only
 
 pub upstream-only : (a b : Lane) → a ≡ fresh U → b ≡ fresh U → a ≡ b
 upstream-only a b = only

@@ -88,11 +88,3 @@ start-sent-passes s k u same n e q =
         let v : NoTransition ≡ To n = sym (ready-not-sent u) ∙ w in
         let x : _≡_ {A = ℕ} 0 1 = cc in
         omega arith
-
-pub other-down : (side : ℕ) → other side ≡ D → side ≡ U
-other-down side q = go (eqb side 1) refl (eqb side 2) refl
-  where
-    go : (a : Bool) → eqb side 1 ≡ a → (b : Bool) → eqb side 2 ≡ b → side ≡ U
-    go true ea b eb = eqb-true side 1 ea
-    go false ea true eb = absurd (let x : _≡_ {A = ℕ} 1 2 = rw (ea, eb) at q in omega arith)
-    go false ea false eb = absurd (let x : _≡_ {A = ℕ} 0 2 = rw (ea, eb) at q in omega arith)

@@ -9,9 +9,9 @@ use borrow.Author.Tests.{eqb-true}
 use Rattle.lane.specs.Names.{U, D, Ready, Both, StartTransport, NoOrder, Run, Cancel, StopNow, MayNotBeSent, ProtocolError}
 use Rattle.lane.specs.Chart.{both, Received, Sent}
 use Rattle.lane.specs.Record.{runningUsed, carriesOwn, ended, kept, answer, other, stepIn, stepOut, received, sent}
-use Rattle.lane.specs.Laws.{same-refl, same-true}
+use Rattle.lane.specs.Laws.{same-refl, same-true, other-down}
 use Rattle.lane.specs.Belt.{start-cancel-ready, start-cancel-other, start-run, start-sent}
-use Rattle.lane.specs.OrderLaws.{run-says, cancel-says, stop-not, end-not, end-stop, start-passes, start-sent-passes, other-down}
+use Rattle.lane.specs.OrderLaws.{run-says, cancel-says, stop-not, end-not, end-stop, start-passes, start-sent-passes}
 use Rattle.lane.specs.declared.Event.{Event}
 use Rattle.lane.specs.declared.Lane.{Lane}
 use Rattle.lane.specs.declared.Moved.{Moved}
@@ -50,7 +50,7 @@ module _ (l : Lane) (e : Event) where
   unfolding received
   run-only h = go (stepIn l e) refl h
     where
-      go : (st : Step) → stepIn l e ≡ st → answer st l e (ended l ProtocolError) .order ≡ Run → StartsOwn l e U
+      go : (st : Step) → stepIn l e ≡ st → answer Received st l e (ended l ProtocolError) .order ≡ Run → StartsOwn l e U
       go (To n) q w =
           let p = run-says l e w in
           let f = start-passes (l .state) (e .kind) (other (l .side)) Received (carriesOwn l e) n (p .0) q in
@@ -70,7 +70,7 @@ module _ (l : Lane) (e : Event) where
   unfolding received
   cancel-only h = go (stepIn l e) refl h
     where
-      go : (st : Step) → stepIn l e ≡ st → answer st l e (ended l ProtocolError) .order ≡ Cancel → StartsOther l e U
+      go : (st : Step) → stepIn l e ≡ st → answer Received st l e (ended l ProtocolError) .order ≡ Cancel → StartsOther l e U
       go (To n) q w =
           let p = cancel-says l e w in
           let f = start-passes (l .state) (e .kind) (other (l .side)) Received (carriesOwn l e) n (p .0) q in
@@ -89,7 +89,7 @@ module _ (l : Lane) (e : Event) where
   unfolding received
   order-stop-received = go (stepIn l e)
     where
-      go : (st : Step) → answer st l e (ended l ProtocolError) .order ≡ StopNow ↔ ((answer st l e (ended l ProtocolError) .refusal ≡ ProtocolError) × (runningUsed (l .state) ≡ true))
+      go : (st : Step) → answer Received st l e (ended l ProtocolError) .order ≡ StopNow ↔ ((answer Received st l e (ended l ProtocolError) .refusal ≡ ProtocolError) × (runningUsed (l .state) ≡ true))
       go (To n) = (λ q. absurd (stop-not l e q), λ p. absurd (let x : _≡_ {A = ℕ} 0 9 = p .0 in omega arith))
       go NoTransition = (λ q. (refl, end-stop (runningUsed (l .state)) q), λ p. rw (p .1))
 
@@ -101,7 +101,7 @@ module _ (l : Lane) (e : Event) where
   unfolding sent
   sent-run-only h = go (stepOut l e) refl h
     where
-      go : (st : Step) → stepOut l e ≡ st → answer st l e (kept l MayNotBeSent) .order ≡ Run → StartsOwn l e D
+      go : (st : Step) → stepOut l e ≡ st → answer Sent st l e (kept l MayNotBeSent) .order ≡ Run → StartsOwn l e D
       go (To n) q w =
           let p = run-says l e w in
           let f = start-passes (l .state) (e .kind) (l .side) Sent (carriesOwn l e) n (p .0) q in
@@ -115,7 +115,7 @@ module _ (l : Lane) (e : Event) where
   unfolding sent
   order-sent-else = go (stepOut l e) refl (eqb (e .kind) StartTransport) refl
     where
-      go : (st : Step) → stepOut l e ≡ st → (z : Bool) → eqb (e .kind) StartTransport ≡ z → (answer st l e (kept l MayNotBeSent) .order ≡ Run) ⊎ (answer st l e (kept l MayNotBeSent) .order ≡ NoOrder)
+      go : (st : Step) → stepOut l e ≡ st → (z : Bool) → eqb (e .kind) StartTransport ≡ z → (answer Sent st l e (kept l MayNotBeSent) .order ≡ Run) ⊎ (answer Sent st l e (kept l MayNotBeSent) .order ≡ NoOrder)
       go (To n) q true ez =
           let p = start-sent-passes (l .state) (e .kind) (l .side) (carriesOwn l e) n (eqb-true (e .kind) 7 ez) q in
           inl (rw (p .1, p .0, ez))

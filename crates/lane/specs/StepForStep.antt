@@ -1,7 +1,9 @@
 -- T2.L2: in any run of calls, each record is what `next` makes of the one before.
 use mathlib.Core.Path.{_≡_, refl, sym, ap, subst, _∙_}
 use mathlib.Core.List.{List, [], _∷_}
+use mathlib.Core.Bool.{Bool}
 use Prim.Native.Nat.{ℕ}
+use Rattle.lane.specs.Chart.{Received, Sent}
 use Rattle.lane.specs.Record.{blank, accepted, ended, stepIn, stepOut, received, sent}
 use Rattle.lane.specs.Laws.{received-by, sent-by}
 use Rattle.lane.specs.declared.Event.{Event}
@@ -28,13 +30,13 @@ abbrev pub Promised : Lane → Happening → Lane → Type 0
 Promised l h l' = l' ≡ after l h
 
 -- What the chart's step makes of it: the next state with its ids, or else a record that is named.
-pub record Follows (l : Lane) (e : Event) (step : Step) (l' otherwise : Lane) : Type 0 where
-  pub moves : (n : ℕ) → step ≡ To n → l' ≡ accepted n l e .lane
+pub record Follows (received : Bool) (l : Lane) (e : Event) (step : Step) (l' otherwise : Lane) : Type 0 where
+  pub moves : (n : ℕ) → step ≡ To n → l' ≡ accepted received n l e .lane
   pub refuses : step ≡ NoTransition → l' ≡ otherwise
 
 abbrev pub Charted : Lane → Happening → Lane → Type 0
-Charted l (gets e) l' = Follows l e (stepIn l e) l' (blank l)
-Charted l (sends e) l' = Follows l e (stepOut l e) l' l
+Charted l (gets e) l' = Follows Received l e (stepIn l e) l' (blank l)
+Charted l (sends e) l' = Follows Sent l e (stepOut l e) l' l
 Charted l (ends refusal) l' = l' ≡ blank l
 Charted l loses l' = l' ≡ blank l
 
@@ -69,6 +71,11 @@ step-for-step l (h ∷ hs) (l' ∷ ls) r = (charted l h l' (r .0), step-for-step
 abbrev pub records : Lane → List Happening → List Lane
 records l [] = []
 records l (h ∷ hs) = after l h ∷ records (after l h) hs
+
+-- the lane that a run leaves
+abbrev pub final : Lane → List Happening → Lane
+final l [] = l
+final l (h ∷ hs) = final (after l h) hs
 
 pub run-total : (l : Lane) (hs : List Happening) → Run Promised l hs (records l hs)
 run-total l [] = tt

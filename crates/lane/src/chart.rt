@@ -92,6 +92,7 @@ fn table(state: u8, kind: u8) -> Entry
         State::IDLE => match kind {
             Kind::BOARD_AVAILABLE => Entry::From(Side::UPSTREAM, State::OFFERED),
             Kind::MACHINE_READY => Entry::From(Side::DOWNSTREAM, State::READY),
+            Kind::BOARD_FORECAST => Entry::From(Side::UPSTREAM, State::IDLE),
             _ => Entry::Nothing,
         },
         State::OFFERED => match kind {
@@ -103,6 +104,7 @@ fn table(state: u8, kind: u8) -> Entry
             Kind::REVOKE_MACHINE_READY => Entry::From(Side::DOWNSTREAM, State::IDLE),
             Kind::BOARD_AVAILABLE => Entry::From(Side::UPSTREAM, State::BOTH),
             Kind::START_TRANSPORT => Entry::ReceivedFrom(Side::DOWNSTREAM, State::TRANSPORTING),
+            Kind::BOARD_FORECAST => Entry::From(Side::UPSTREAM, State::READY),
             _ => Entry::Nothing,
         },
         State::BOTH => match kind {
@@ -118,11 +120,13 @@ fn table(state: u8, kind: u8) -> Entry
                 Side::UPSTREAM,
                 State::TRANSPORTING,
             ),
+            Kind::BOARD_FORECAST => Entry::ReceivedFrom(Side::UPSTREAM, State::TRANSPORTING),
             _ => Entry::Nothing,
         },
         State::STOPPED => match kind {
             Kind::REVOKE_BOARD_AVAILABLE => Entry::ReceivedFrom(Side::UPSTREAM, State::STOPPED),
             Kind::TRANSPORT_FINISHED => Entry::From(Side::UPSTREAM, State::IDLE),
+            Kind::BOARD_FORECAST => Entry::ReceivedFrom(Side::UPSTREAM, State::STOPPED),
             _ => Entry::Nothing,
         },
         State::FINISHED => match kind {

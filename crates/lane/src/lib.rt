@@ -2,10 +2,13 @@
 // Nothing here reads or writes bytes of a message.
 mod names; // names.rt: the numbers by name
 mod chart; // chart.rt: which message makes which transition
+mod ids; // ids.rt: ids compared, and the ForecastId
 
 use chart::Step;
 use chart::next;
 use grammar::Limits;
+pub use ids::Forecast;
+use ids::same_bytes;
 pub use names::Kind;
 pub use names::Order;
 pub use names::Refusal;
@@ -15,18 +18,22 @@ ghost use mathlib.Core.Path.{_≡_};
 ghost use Rattle.lane.specs.Names.{U, D};
 ghost use Rattle.lane.specs.Record as says;
 
-/// A lane: our side, one of nine states, and the two ids.
+/// A lane: our side, one of nine states, the two BoardIds, and the ForecastId that is kept.
 pub struct Lane {
     pub side: u8,
     pub state: u8,
     pub offered: [u8; 36],
     pub running: [u8; 36],
+    pub forecast: Forecast,
 }
 
-/// What the chart looks at in a message: its kind, and its BoardId (any bytes where its kind has none).
+/// What a lane looks at in a message: its kind, and its BoardId (any bytes where its kind has none);
+/// whether it carries a ForecastId, and that (any where it carries none).
 pub struct Event {
     pub kind: u8,
     pub id: [u8; 36],
+    pub carries: bool,
+    pub forecast: Forecast,
 }
 
 /// What a message did: a refusal number (0: accepted), the lane after it, and the belt order.
@@ -93,7 +100,7 @@ impl Lane {
     {
         let same = self.carries_own(event);
         match next(self.state, event.kind, other(self.side), true, same) {
-            Step::To(n) => self.accepted(n, event),
+            Step::To(n) => self.accepted(true, n, event),
             Step::NoTransition => self.ended(Refusal::PROTOCOL_ERROR),
         }
     }
@@ -105,7 +112,7 @@ impl Lane {
     {
         let same = self.carries_own(event);
         match next(self.state, event.kind, self.side, false, same) {
-            Step::To(n) => self.accepted(n, event),
+            Step::To(n) => self.accepted(false, n, event),
             Step::NoTransition => self.kept(Refusal::MAY_NOT_BE_SENT),
         }
     }
@@ -132,21 +139,25 @@ impl Lane {
         lane.state = State::NOT_CONNECTED;
         lane.offered = [0u8; 36];
         lane.running = [0u8; 36];
+        let forecast = Forecast::none();
+        lane.forecast = forecast;
         lane
     }
 
     // An accepted message that leads to state `n`: the record there, with its ids, and the belt order.
-    fn accepted(self, n: u8, event: Event) -> Moved
-        ensures { λ r. ⌜ r ≡ says.accepted n self event ⌝ }
+    fn accepted(self, received: bool, n: u8, event: Event) -> Moved
+        ensures { λ r. ⌜ r ≡ says.accepted received n self event ⌝ }
     {
         let offered = self.offered_in(n, event);
         let running = self.running_in(n, event);
+        let forecast = self.forecast_in(received, n, event);
         let order = self.start_order(event);
         let lane = Lane {
             side: self.side,
             state: n,
             offered,
             running,
+            forecast,
         };
         Moved {
             refusal: Refusal::ACCEPTED,
@@ -185,6 +196,27 @@ impl Lane {
         [0u8; 36]
     }
 
+    // The forecast in state `n`, to which a message led.
+    fn forecast_in(self, received: bool, n: u8, event: Event) -> Forecast
+        ensures { λ r. ⌜ r ≡ says.forecastIn received n self event ⌝ }
+    {
+        if forecast_used(n) {
+            return forecast_after(received, self.forecast_held(), event);
+        }
+        Forecast::none()
+    }
+
+    // The forecast that counts before a message: none where the state has none in use.
+    fn forecast_held(self) -> Forecast
+        ensures { λ r. ⌜ r ≡ says.forecastHeld self ⌝ }
+    {
+        if forecast_used(self.state) {
+            let forecast = self.forecast;
+            return forecast.righted();
+        }
+        Forecast::none()
+    }
+
     // The belt order of an accepted message.
     fn start_order(self, event: Event) -> u8
         ensures { λ r. ⌜ r ≡ says.startOrder self event ⌝ }
@@ -207,10 +239,37 @@ impl Lane {
         let id = event.id;
         if event.kind == Kind::START_TRANSPORT {
             let offered = self.offered;
-            return same_id(offered, id);
+            return same_bytes(&offered, &id);
         }
         let running = self.running;
-        same_id(running, id)
+        same_bytes(&running, &id)
+    }
+}
+
+// The forecast behind a message that passes: a received forecast with an id replaces it, a MachineReady with the same id clears it.
+fn forecast_after(received: bool, held: Forecast, event: Event) -> Forecast
+    ensures { λ r. ⌜ r ≡ says.forecastAfter received held event ⌝ }
+{
+    let kind = event.kind;
+    let named = event.forecast;
+    match kind {
+        Kind::BOARD_FORECAST => {
+            if event.carries {
+                if received {
+                    return named.righted();
+                }
+            }
+            held
+        }
+        Kind::MACHINE_READY => {
+            if event.carries {
+                if held.same(named.righted()) {
+                    return Forecast::none();
+                }
+            }
+            held
+        }
+        _ => held,
     }
 }
 
@@ -218,11 +277,13 @@ impl Lane {
 fn fresh(side: u8) -> Lane
     ensures { λ r. ⌜ r ≡ says.fresh side ⌝ }
 {
+    let forecast = Forecast::none();
     Lane {
         side,
         state: State::NOT_CONNECTED,
         offered: [0u8; 36],
         running: [0u8; 36],
+        forecast,
     }
 }
 
@@ -247,15 +308,12 @@ fn under_way(state: u8) -> bool
     }
 }
 
-fn same_id(a: [u8; 36], b: [u8; 36]) -> bool
-    ensures { λ r. ⌜ r ≡ says.sameId a b ⌝ }
+// The states in which a forecast is in use: from Idle on.
+fn forecast_used(state: u8) -> bool
+    ensures { λ r. ⌜ r ≡ says.forecastUsed state ⌝ }
 {
-    let mut i = 0;
-    while i < 36 {
-        if a[i] != b[i] {
-            return false;
-        }
-        i += 1;
+    match state {
+        State::IDLE..=State::FINISHED => true,
+        _ => false,
     }
-    true
 }

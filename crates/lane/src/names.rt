@@ -57,6 +57,8 @@ impl Kind {
     pub const TRANSPORT_FINISHED: u8 = 9;
 
     pub const CHECK_ALIVE: u8 = 10;
+
+    pub const BOARD_FORECAST: u8 = 11;
 }
 
 /// Belt orders.

@@ -4,7 +4,7 @@ use mathlib.Core.List.{List, [], _∷_}
 use mathlib.Core.Bool.{true}
 use Prim.Native.Nat.{ℕ}
 use lib.ListN.{length, replicate}
-use Rattle.lane.specs.Names.{BoardAvailable}
+use Rattle.lane.specs.Names.{BoardForecast}
 use Rattle.grammar.specs.Bytes.{Bytes, text, within}
 use Rattle.grammar.specs.Character.{isChar}
 use Rattle.model.specs.Characters.{charP, plainByte}
@@ -16,10 +16,12 @@ use Rattle.spelling.specs.Decided.{textFrom, isText}
 use Rattle.spelling.proofs.Theorems.{largest}
 use Rattle.value.specs.declared.text.Words.the-variants.{Present as IsWords}
 use Rattle.table.specs.Table.{Form, words, someWords, whole, guid, version, positive, features, Row, table, rowsOf}
-use Rattle.message.specs.Fields.{Field, none, aWords, aWhole, aMeasure, aGuid, messageFrom, fieldsOf}
+use Rattle.message.specs.Fields.{Field, none, aWords, aWhole, aMeasure, aGuid}
+use Rattle.message.specs.Cells.{cellsOf, fieldsFrom, fieldBy, wordsBy, wholeBy, measureBy, guidBy, featuresBy}
+use Rattle.message.specs.Messages.{messageFrom, fieldsOf, withZeros}
 use Rattle.message.specs.declared.values.Whole.the-variants.{Present as IsWhole}
 use Rattle.message.specs.declared.values.Measure.the-variants.{Present as IsMeasure}
-use Rattle.message.specs.declared.kinds.Message.{Message}
+use Rattle.message.specs.declared.cells.Message.{Message}
 use Rattle.meant.specs.Meant.{meantBy, meantOf, refusalOf}
 use Rattle.meant.specs.Written.{attributeOf, attributesOf, childOf, childrenOf, writtenOf}
 use Rattle.meant.proofs.SizeLaws.{LARGEST}
@@ -41,13 +43,13 @@ abbrev largestFields : List Row → List Field
 largestFields [] = []
 largestFields (r ∷ rows) = largestField (r .form) ∷ largestFields rows
 
-unfoldable pub largestBoard : Message
-largestBoard = messageFrom BoardAvailable (largestFields (rowsOf BoardAvailable))
+unfoldable pub largestMessage : Message
+largestMessage = messageFrom BoardForecast (largestFields (rowsOf BoardForecast))
 
-pub largest-sendable : refusalOf largestBoard quotes ≡ 0
-unfolding largestBoard messageFrom fieldsOf table meantOf meantBy within isText textFrom charP plainByte isChar guidOf filled may hex digit
+pub largest-sendable : refusalOf largestMessage quotes ≡ 0
+unfolding largestMessage messageFrom fieldsOf table meantOf meantBy within isText textFrom charP plainByte isChar guidOf filled may hex digit withZeros cellsOf fieldsFrom fieldBy wordsBy wholeBy measureBy guidBy featuresBy
 largest-sendable = refl
 
-pub largest-long : length (writtenOf largestBoard quotes) ≡ LARGEST
-unfolding largestBoard messageFrom fieldsOf table attributesOf attributeOf childrenOf childOf printInt digitsOf escape escapeByte
+pub largest-long : length (writtenOf largestMessage quotes) ≡ LARGEST
+unfolding largestMessage messageFrom fieldsOf table attributesOf attributeOf childrenOf childOf printInt digitsOf escape escapeByte withZeros cellsOf fieldsFrom fieldBy wordsBy wholeBy measureBy guidBy featuresBy
 largest-long = rw largest

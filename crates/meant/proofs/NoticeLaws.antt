@@ -18,11 +18,12 @@ use Rattle.spelling.specs.Decided.{isText}
 use Rattle.spelling.proofs.Theorems.{text-decided}
 use Rattle.table.specs.Table.{table, rowsOf}
 use Rattle.table.specs.Says.{Result, present, aText, anInt}
-use Rattle.message.specs.Fields.{messageFrom, fieldsOf}
 use Rattle.meant.specs.Meant.{meantBy, meantOf, firstIn, refusalBy}
 use Rattle.meant.specs.Written.{attributeOf, attributesOf, childOf, childrenOf, writtenOf}
 use Rattle.meant.specs.Notices.{description, notice, noticeMessage}
 use Rattle.meant.proofs.MessageLaws.{Tells, refusal-table, message-back}
+use Rattle.message.specs.Cells.{cellsOf, fieldsFrom, fieldBy, wordsBy, wholeBy, measureBy, guidBy, featuresBy}
+use Rattle.message.specs.Messages.{messageFrom, fieldsOf, withZeros}
 
 -- a text that is short and written as it is
 record Described (d : Bytes) : Type 0 where
@@ -54,7 +55,7 @@ ends [] = refl
 ends (b ∷ d) = ap (λ (y : Bytes). b ∷ y) (ends d)
 
 pub notice-written : (n : ℕ) → notice n ≡ writtenOf (noticeMessage n) (description n)
-unfolding notice noticeMessage messageFrom fieldsOf table attributesOf attributeOf childrenOf childOf printInt digitsOf escape escapeByte
+unfolding notice noticeMessage messageFrom fieldsOf table attributesOf attributeOf childrenOf childOf printInt digitsOf escape escapeByte withZeros cellsOf fieldsFrom fieldBy wordsBy wholeBy measureBy guidBy featuresBy
 notice-written n = rw (whole-text (description n), described n .same) (ap (λ (y : Bytes). text "<Hermes><Notification NotificationCode=\"1\" Severity=\"1\" Description=\"" ++ y) (ends (description n)))
 
 -- what it means
@@ -62,7 +63,7 @@ abbrev pub noticeValues : ℕ → List Result
 noticeValues n = present (anInt 1) ∷ present (anInt 1) ∷ present (aText (description n)) ∷ []
 
 notice-meant : (n : ℕ) → meantOf (rowsOf 2) (fieldsOf (noticeMessage n)) (description n) ≡ noticeValues n
-unfolding noticeMessage messageFrom fieldsOf table meantOf meantBy within
+unfolding noticeMessage messageFrom fieldsOf table meantOf meantBy within withZeros cellsOf fieldsFrom fieldBy wordsBy wholeBy measureBy guidBy featuresBy
 notice-meant n =
     let d = description n in
     let g = described n in

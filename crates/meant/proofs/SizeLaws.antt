@@ -149,9 +149,9 @@ message-long by k fields texts h =
     let s = element-settled (nameIn by k) (givenIn (rowsIn by k) fields) (rowsIn by k) in
     omega arith
 
--- a BoardAvailable is the largest
+-- a BoardForecast is the largest
 abbrev pub LARGEST : ℕ
-LARGEST = 5933
+LARGEST = 6462
 
 small-kinds : onKinds (λ k. leb (mostOf k) LARGEST) table ≡ true
 unfolding table

@@ -12,8 +12,9 @@ use Rattle.grammar.specs.Tree.{Tree}
 use Rattle.grammar.specs.Message.{Message as IsMessage}
 use Rattle.table.specs.Table.{Row, Entry, table, isKindIn, isKind, rowsOf}
 use Rattle.table.specs.Says.{present, anInt, aText, Said, saidIn, saidOf}
-use Rattle.message.specs.Fields.{Field, messageFrom, serviceFrom, noticeFrom, boardFrom, readyFrom, startFrom, transferFrom, aliveFrom, fieldsOf}
-use Rattle.message.specs.declared.kinds.Message.{Message}
+use Rattle.message.specs.Fields.{Field}
+use Rattle.message.specs.Messages.{messageFrom, fieldsOf}
+use Rattle.message.specs.declared.cells.Message.{Message}
 use Rattle.meant.specs.Meant.{meantOf, firstIn, meantIn, refusedIn, refusalOf}
 use Rattle.meant.specs.Written.{writtenIn, writtenOf}
 use Rattle.meant.specs.Notices.{description, notice, noticeMessage}
@@ -47,41 +48,6 @@ pub reads-back : (m : Message) (texts : Bytes) → isKind (m .kind) ≡ true →
     × (saidOf t .values ≡ meantOf (rowsOf (m .kind)) (fieldsOf m) texts)
 reads-back m texts i h = let x = messages.message-back (m .kind) (fieldsOf m) texts i h in (x .reading, x .is-message, x .kind, x .refusal, x .values)
 
--- m, with its kind written out
-abbrev pub ofKind : ℕ → Message → Message
-ofKind k m = record {
-  kind = k;
-  service = m .service;
-  notification = m .notification;
-  board = m .board;
-  ready = m .ready;
-  transport = m .transport;
-  transfer = m .transfer;
-  alive = m .alive;
-}
-
--- the fields of a message are all of its kind's struct, each in its row
-pub fields-kept : (m : Message)
-    → (m .kind ≡ 1 → serviceFrom (fieldsOf m) ≡ m .service)
-    × (m .kind ≡ 2 → noticeFrom (fieldsOf m) ≡ m .notification)
-    × (m .kind ≡ 3 → boardFrom (fieldsOf m) ≡ m .board)
-    × (m .kind ≡ 5 → readyFrom (fieldsOf m) ≡ m .ready)
-    × (m .kind ≡ 7 → startFrom (fieldsOf m) ≡ m .transport)
-    × (m .kind ≡ 8 → transferFrom (fieldsOf m) ≡ m .transfer)
-    × (m .kind ≡ 9 → transferFrom (fieldsOf m) ≡ m .transfer)
-    × (m .kind ≡ 10 → aliveFrom (fieldsOf m) ≡ m .alive)
-unfolding fieldsOf
-fields-kept m = (
-  λ e. ap (λ (k : ℕ). serviceFrom (fieldsOf (ofKind k m))) e,
-  λ e. ap (λ (k : ℕ). noticeFrom (fieldsOf (ofKind k m))) e,
-  λ e. ap (λ (k : ℕ). boardFrom (fieldsOf (ofKind k m))) e,
-  λ e. ap (λ (k : ℕ). readyFrom (fieldsOf (ofKind k m))) e,
-  λ e. ap (λ (k : ℕ). startFrom (fieldsOf (ofKind k m))) e,
-  λ e. ap (λ (k : ℕ). transferFrom (fieldsOf (ofKind k m))) e,
-  λ e. ap (λ (k : ℕ). transferFrom (fieldsOf (ofKind k m))) e,
-  λ e. ap (λ (k : ℕ). aliveFrom (fieldsOf (ofKind k m))) e,
-)
-
 -- its size at most, by the rows of its kind
 pub written-most : (m : Message) (texts : Bytes) → refusalOf m texts ≡ 0 → length (writtenOf m texts) ≤ sizes.mostOf (m .kind)
 written-most m texts h = sizes.message-long table (m .kind) (fieldsOf m) texts h
@@ -92,14 +58,15 @@ pub most-each :
     × (sizes.mostOf 2 ≡ 1609)
     × (sizes.mostOf 3 ≡ 5933)
     × (sizes.mostOf 4 ≡ 40)
-    × (sizes.mostOf 5 ≡ 48)
+    × (sizes.mostOf 5 ≡ 542)
     × (sizes.mostOf 6 ≡ 38)
     × (sizes.mostOf 7 ≡ 112)
     × (sizes.mostOf 8 ≡ 98)
     × (sizes.mostOf 9 ≡ 102)
     × (sizes.mostOf 10 ≡ 525)
+    × (sizes.mostOf 11 ≡ 6462)
 unfolding table
-most-each = (refl, refl, refl, refl, refl, refl, refl, refl, refl, refl)
+most-each = (refl, refl, refl, refl, refl, refl, refl, refl, refl, refl, refl)
 
 -- and whatever its kind
 pub written-small : (m : Message) (texts : Bytes) → isKind (m .kind) ≡ true → refusalOf m texts ≡ 0 → length (writtenOf m texts) ≤ sizes.LARGEST
@@ -107,7 +74,7 @@ written-small m texts i h = let x = written-most m texts h in let y = sizes.most
 
 -- which is reached
 pub written-largest : (m : Message) × (texts : Bytes) × (refusalOf m texts ≡ 0) × (length (writtenOf m texts) ≡ sizes.LARGEST)
-written-largest = (largest.largestBoard, largest.quotes, largest.largest-sendable, largest.largest-long)
+written-largest = (largest.largestMessage, largest.quotes, largest.largest-sendable, largest.largest-long)
 
 -- T2.W1: what is written is "a message of at most 65,536 bytes"
 pub written-is-message : (m : Message) (texts : Bytes) → isKind (m .kind) ≡ true → refusalOf m texts ≡ 0

@@ -17,10 +17,12 @@ use Rattle.value.specs.declared.text.Words.{Words}
 use Rattle.value.specs.declared.text.Words.the-variants.{Absent as NoWords, Present as IsWords}
 use Rattle.table.specs.Table.{words, someWords, whole, guid, version, positive, features, Entry, entry, _is_, _opt_, ifThere, table}
 use Rattle.table.specs.Says.{aText, anInt, millionths, anId, noted, Result, absent, present, refused}
-use Rattle.message.specs.Fields.{Field, aWords, aWhole, aMeasure, aGuid, aFeatures, messageFrom, fieldsOf}
+use Rattle.message.specs.Fields.{Field, aWords, aWhole, aMeasure, aGuid, aFeatures}
+use Rattle.message.specs.Cells.{cellsOf, fieldsFrom, fieldBy, wordsBy, wholeBy, measureBy, guidBy, featuresBy}
+use Rattle.message.specs.Messages.{messageFrom, fieldsOf, withZeros}
 use Rattle.message.specs.declared.values.Whole.the-variants.{Absent as NoWhole, Present as IsWhole}
 use Rattle.message.specs.declared.values.Measure.the-variants.{Absent as NoMeasure, Present as IsMeasure}
-use Rattle.message.specs.declared.kinds.Message.{Message}
+use Rattle.message.specs.declared.cells.Message.{Message}
 use Rattle.meant.specs.Meant.{sendable, textMeant, wholeMeant, measureMeant, idMeant, featuresMeant, meantBy, meantOf, meantIn, refusedIn, refusalOf}
 use Rattle.meant.specs.Written.{attributeOf, attributesOf, childOf, childrenOf, writtenIn, writtenOf}
 use Rattle.meant.specs.Notices.{description, notice}
@@ -52,11 +54,11 @@ pub service :
     "<Hermes><ServiceDescription MachineId=\"m\" LaneId=\"1\" Version=\"1.6\"><SupportedFeatures/></ServiceDescription></Hermes>"
     × Writes 1 (part 0 1 ∷ int 65535 ∷ part 1 3 ∷ supports true true true ∷ []) "m1.6"
     "<Hermes><ServiceDescription MachineId=\"m\" LaneId=\"65535\" Version=\"1.6\"><SupportedFeatures><FeatureBoardForecast/><FeatureQueryBoardInfo/><FeatureSendBoardInfo/></SupportedFeatures></ServiceDescription></Hermes>"
-unfolding messageFrom fieldsOf table attributesOf attributeOf childrenOf childOf escape escapeByte printInt digitsOf
+unfolding messageFrom fieldsOf table attributesOf attributeOf childrenOf childOf escape escapeByte printInt digitsOf withZeros cellsOf fieldsFrom fieldBy wordsBy wholeBy measureBy guidBy featuresBy
 service = (refl, refl)
 
 pub notification : Writes 2 (int 7 ∷ int 4 ∷ part 0 3 ∷ []) "a&b" "<Hermes><Notification NotificationCode=\"7\" Severity=\"4\" Description=\"a&amp;b\"/></Hermes>"
-unfolding messageFrom fieldsOf table attributesOf attributeOf childrenOf childOf escape escapeByte printInt digitsOf
+unfolding messageFrom fieldsOf table attributesOf attributeOf childrenOf childOf escape escapeByte printInt digitsOf withZeros cellsOf fieldsFrom fieldBy wordsBy wholeBy measureBy guidBy featuresBy
 notification = refl
 
 -- every attribute of a board, and none that may be missing
@@ -69,7 +71,7 @@ pub board :
     (id "01234567-89ab-cdef-0123-456789abcdef" ∷ part 0 1 ∷ int 0 ∷ aWords NoWords ∷ int 0 ∷ aWords NoWords ∷ aWords NoWords ∷ aMeasure NoMeasure ∷ aMeasure NoMeasure ∷ aMeasure NoMeasure ∷ aMeasure NoMeasure ∷ aMeasure NoMeasure ∷ aMeasure NoMeasure ∷ aMeasure NoMeasure ∷ aWords NoWords ∷ [])
     "c"
     "<Hermes><BoardAvailable BoardId=\"01234567-89ab-cdef-0123-456789abcdef\" BoardIdCreatedBy=\"c\" FailedBoard=\"0\" FlippedBoard=\"0\"/></Hermes>"
-unfolding messageFrom fieldsOf table attributesOf attributeOf childrenOf childOf escape escapeByte printInt digitsOf printDecimal places behindPoint dropBack keepBefore
+unfolding messageFrom fieldsOf table attributesOf attributeOf childrenOf childOf escape escapeByte printInt digitsOf printDecimal places behindPoint dropBack keepBefore withZeros cellsOf fieldsFrom fieldBy wordsBy wholeBy measureBy guidBy featuresBy
 board = (refl, refl)
 
 pub others :
@@ -81,7 +83,7 @@ pub others :
     × Writes 9 (int 3 ∷ id "00000000-0000-0000-0000-00000000000a" ∷ []) "" "<Hermes><TransportFinished TransferState=\"3\" BoardId=\"00000000-0000-0000-0000-00000000000a\"/></Hermes>"
     × Writes 10 (int 1 ∷ part 0 0 ∷ []) "" "<Hermes><CheckAlive Type=\"1\" Id=\"\"/></Hermes>"
     × Writes 10 (aWhole NoWhole ∷ aWords NoWords ∷ []) "" "<Hermes><CheckAlive/></Hermes>"
-unfolding messageFrom fieldsOf table attributesOf attributeOf childrenOf childOf escape escapeByte printInt digitsOf printDecimal places behindPoint dropBack keepBefore
+unfolding messageFrom fieldsOf table attributesOf attributeOf childrenOf childOf escape escapeByte printInt digitsOf printDecimal places behindPoint dropBack keepBefore withZeros cellsOf fieldsFrom fieldBy wordsBy wholeBy measureBy guidBy featuresBy
 others = (refl, refl, refl, refl, refl, refl, refl, refl)
 
 -- "D is `malformed message`, .. for 2, 3, 4, 5, 6, 9"
@@ -140,7 +142,7 @@ pub presence :
     × (refusalOf (messageFrom 8 (int 4 ∷ [])) [] ≡ 6)
     × (refusalOf (messageFrom 8 (int 3 ∷ [])) [] ≡ 4)
     × (refusalOf (messageFrom 10 []) [] ≡ 0)
-unfolding guidOf filled may hex digit within messageFrom fieldsOf table meantOf meantBy
+unfolding guidOf filled may hex digit within messageFrom fieldsOf table meantOf meantBy withZeros cellsOf fieldsFrom fieldBy wordsBy wholeBy measureBy guidBy featuresBy
 presence = (refl, refl, refl, refl, refl, refl, refl, refl)
 
 -- a table of its own, of one kind: with a BoardId the maker is required, without it the maker is not looked at, and not written

@@ -7,9 +7,10 @@ use lib.ListN.{length}
 use Rattle.lane.specs.Names.{Notification}
 use Rattle.grammar.specs.Bytes.{Bytes, text}
 use Rattle.value.specs.declared.text.Words.the-variants.{Present as IsWords}
-use Rattle.message.specs.Fields.{aWords, aWhole, messageFrom}
+use Rattle.message.specs.Fields.{aWords, aWhole}
+use Rattle.message.specs.Messages.{messageFrom}
 use Rattle.message.specs.declared.values.Whole.the-variants.{Present as IsWhole}
-use Rattle.message.specs.declared.kinds.Message.{Message}
+use Rattle.message.specs.declared.cells.Message.{Message}
 
 -- "D is `malformed message`, `message too long`, `missing attribute`, `text too long`, `bad value` or `invalid transition` for 2, 3, 4, 5, 6, 9"
 unfoldable pub description : ℕ → Bytes

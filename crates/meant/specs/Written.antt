@@ -7,11 +7,12 @@ use Rattle.printing.specs.Digits.{printInt}
 use Rattle.spelling.specs.Written.{escape, printDecimal}
 use Rattle.value.specs.declared.text.Words.the-variants.{Absent as NoWords, Present as IsWords}
 use Rattle.table.specs.Table.{Need, required, optional, requiredWith, ignored, Row, Entry, table, rowsIn, nameIn}
-use Rattle.message.specs.Fields.{Field, none, aWords, aWhole, aMeasure, aGuid, aFeatures, fieldsOf}
+use Rattle.message.specs.Fields.{Field, none, aWords, aWhole, aMeasure, aGuid, aFeatures}
+use Rattle.message.specs.Messages.{fieldsOf}
 use Rattle.message.specs.declared.values.Whole.the-variants.{Absent as NoWhole, Present as IsWhole}
 use Rattle.message.specs.declared.values.Measure.the-variants.{Absent as NoMeasure, Present as IsMeasure}
 use Rattle.message.specs.declared.values.Features.{Features}
-use Rattle.message.specs.declared.kinds.Message.{Message}
+use Rattle.message.specs.declared.cells.Message.{Message}
 use Rattle.meant.specs.Meant.{textAt, rowsWith}
 
 -- "one space before each attribute, double quotes": an attribute of the name n with the value v

@@ -1,1 +1,4 @@
 pub mod MessageLaws
+pub mod GuidLaws
+pub mod BackLaws
+pub mod CalledLaws

@@ -1,9 +1,8 @@
 -- Messages put together.
 use mathlib.Core.Path.{_≡_, refl, sym, ap, _∙_}
 use mathlib.Core.List.{List, []}
-use mathlib.Core.Bool.{Bool, true, false, _||_, cond}
+use mathlib.Core.Bool.{Bool, true, cond}
 use Prim.Native.Nat.{ℕ}
-use lib.Dec.{eqb}
 use borrow.Author.Tests.{ne-eqb, eq-eqb}
 use Rattle.exact.specs.Chain.{clash}
 use Rattle.grammar.specs.Bytes.{Bytes}
@@ -11,33 +10,17 @@ use Rattle.grammar.specs.Tree.{Tree}
 use Rattle.value.specs.declared.text.Words.{Words}
 use Rattle.table.specs.Table.{Need, required, optional, requiredWith, ignored, Row, rowsOf}
 use Rattle.table.specs.Theorems.{plainNeed, rows-table}
-use Rattle.message.specs.Fields.{placedBy, fieldsIn, serviceFrom, noticeFrom, boardFrom, readyFrom, startFrom, transferFrom, aliveFrom, only, messageFrom, blank}
+use Rattle.message.specs.Fields.{placedBy, fieldsIn}
+use Rattle.message.specs.Cells.{cellsOf}
+use Rattle.message.specs.Messages.{withZeros, messageFrom, blank}
 use Rattle.message.specs.Checked.{unread, messageOf, judgedTo}
+use Rattle.message.specs.declared.cells.Message.{Message}
 use Rattle.message.specs.declared.checking.Checked.{Checked}
-use Rattle.message.specs.declared.kinds.ServiceDescription.{ServiceDescription as Service}
-use Rattle.message.specs.declared.kinds.Notification.{Notification as Notice}
-use Rattle.message.specs.declared.kinds.BoardAvailable.{BoardAvailable as Board}
-use Rattle.message.specs.declared.kinds.MachineReady.{MachineReady as Ready}
-use Rattle.message.specs.declared.kinds.StartTransport.{StartTransport as Start}
-use Rattle.message.specs.declared.kinds.Transfer.{Transfer}
-use Rattle.message.specs.declared.kinds.CheckAlive.{CheckAlive as Alive}
-use Rattle.message.specs.declared.kinds.Message.{Message}
-
-pub blank-made : (k : ℕ) {a : Service} {b : Notice} {c : Board} {d : Ready} {e : Start} {f : Transfer} {g : Alive}
-    → a ≡ serviceFrom [] → b ≡ noticeFrom [] → c ≡ boardFrom [] → d ≡ readyFrom [] → e ≡ startFrom [] → f ≡ transferFrom [] → g ≡ aliveFrom []
-    → _≡_ {A = Message} (record { kind = k; service = a; notification = b; board = c; ready = d; transport = e; transfer = f; alive = g }) (blank k)
-blank-made k p q r s t u v = cc
-
-no-fields : (b : Bool) → only b [] ≡ []
-no-fields true = refl
-no-fields false = refl
 
 -- without fields nothing is there
 pub none-there : (k : ℕ) → messageFrom k [] ≡ blank k
-unfolding messageFrom
-none-there k =
-    blank-made k (ap serviceFrom (no-fields (eqb k 1))) (ap noticeFrom (no-fields (eqb k 2))) (ap boardFrom (no-fields (eqb k 3))) (ap readyFrom (no-fields (eqb k 5))) (ap startFrom (no-fields (eqb k 7)))
-    (ap transferFrom (no-fields (eqb k 8 || eqb k 9))) (ap aliveFrom (no-fields (eqb k 10)))
+unfolding messageFrom withZeros cellsOf
+none-there k = refl
 
 -- of plain rows, every text has its place
 pub plain-placed : (n : Need) (w : Words) → plainNeed n ≡ true → placedBy n w ≡ w

@@ -1,26 +1,23 @@
--- A message as numbers: a cell of three numbers for each row of its kind, in table order, and apart from them its BoardId. The first number of a
+-- The values of a message as numbers: a cell of three for each row of its kind, in table order, and apart from them its BoardId. The first number of a
 -- cell is 0 if the value is absent. Then follow: of a text its place and its length; of an int or a positive number its value; of the features their
 -- bits 1, 2 and 4.
-use mathlib.Core.Path.{_≡_}
 use mathlib.Core.List.{List, [], _∷_, _++_}
-use mathlib.Core.Bool.{Bool, true, false, _&&_, _||_, not, cond}
+use mathlib.Core.Bool.{Bool, true, false, _&&_, not, cond}
 use Prim.Native.Nat.{ℕ, _+_, _*_, _/_, _%_}
-use lib.ListN.{getD, length, drop, replicate}
-use lib.Dec.{eqb, leb}
-use Rattle.lane.specs.Names.{BoardAvailable, StartTransport, StopTransport, TransportFinished}
+use lib.ListN.{getD}
+use lib.Dec.{eqb}
 use Rattle.grammar.specs.Bytes.{Bytes}
 use Rattle.value.specs.Ids.{noId}
 use Rattle.value.specs.declared.id.Guid.{Guid}
 use Rattle.value.specs.declared.text.Words.{Words}
 use Rattle.value.specs.declared.text.Words.the-variants.{Absent as NoWords, Present as IsWords}
-use Rattle.table.specs.Table.{Row, Form, words, someWords, whole, guid, version, positive, features, rowsOf, guidCellIn}
-use Rattle.message.specs.Fields.{Field, none, aWords, aWhole, aMeasure, aGuid, aFeatures, fieldsOf, messageFrom}
+use Rattle.table.specs.Table.{Row, Form, words, someWords, whole, guid, version, positive, features}
+use Rattle.message.specs.Fields.{Field, none, aWords, aWhole, aMeasure, aGuid, aFeatures}
 use Rattle.message.specs.declared.values.Whole.{Whole}
 use Rattle.message.specs.declared.values.Whole.the-variants.{Absent as NoWhole, Present as IsWhole}
 use Rattle.message.specs.declared.values.Measure.{Measure}
 use Rattle.message.specs.declared.values.Measure.the-variants.{Absent as NoMeasure, Present as IsMeasure}
 use Rattle.message.specs.declared.values.Features.{Features}
-use Rattle.message.specs.declared.kinds.Message.{Message}
 
 -- how many rows a kind can have, and how many numbers that makes
 abbrev pub ROWS : ℕ
@@ -107,46 +104,3 @@ cellOf (aFeatures f) = featuresCell f
 unfoldable pub cellsOf : List Field → List ℕ
 cellsOf [] = []
 cellsOf (x ∷ l) = cellOf x ++ cellsOf l
-
--- a message as numbers alone: its kind, then its cells, and zeros behind them
-unfoldable pub numbersOf : Message → List ℕ
-numbersOf m = m .kind ∷ (cellsOf (fieldsOf m) ++ drop (length (cellsOf (fieldsOf m))) (replicate NUMBERS 0))
-
--- a number that is too large for its place counts as the largest one there
-abbrev pub atMost : ℕ → ℕ → ℕ
-atMost most n = cond (leb n most) n most
-
-abbrev pub kindIn : List ℕ → ℕ
-kindIn numbers = atMost 255 (getD numbers 0 0)
-
--- the message of the kind k that cells and a BoardId are
-abbrev pub messageBy : ℕ → List ℕ → Bytes → Message
-messageBy k cells id = messageFrom k (fieldsFrom (rowsOf k) 0 cells id)
-
--- and back, with its BoardId
-unfoldable pub messageOf : List ℕ → Bytes → Message
-messageOf numbers id = messageBy (kindIn numbers) (drop 1 numbers) id
-
--- the bytes of an id; zeros if it is absent
-abbrev pub bytesIn : Guid → Bytes
-bytesIn g = cond (g .there) (g .bytes) (noId .bytes)
-
--- the BoardId of a message of a kind that has one, else zeros
-unfoldable pub idOf : Message → Bytes
-idOf m =
-    cond (eqb (m .kind) BoardAvailable) (bytesIn (m .board .id))
-    (cond (eqb (m .kind) StartTransport) (bytesIn (m .transport .id))
-    (cond (eqb (m .kind) StopTransport || eqb (m .kind) TransportFinished) (bytesIn (m .transfer .id)) (noId .bytes)))
-
--- where the cell of a kind's BoardId stands; behind all cells if it has none
-unfoldable pub idCell : ℕ → ℕ
-idCell k = guidCellIn NUMBERS (rowsOf k) 0
-
--- the id, if there is a cell for it, and the id is there
-abbrev pub idBy : ℕ → List ℕ → Bytes → Bytes
-idBy at cells id = cond (leb NUMBERS at) (noId .bytes) (cond (isThere (cellAt cells at)) id (noId .bytes))
-
--- cells and a BoardId as they are told: those of the message that they are
-pub record Told (k : ℕ) (cells : List ℕ) (id : Bytes) : Type 0 where
-  pub numbers : k ∷ cells ≡ numbersOf (messageBy k cells id)
-  pub named : id ≡ idOf (messageBy k cells id)

@@ -17,8 +17,9 @@ use Rattle.value.specs.declared.text.Words.{Words}
 use Rattle.value.specs.declared.text.Words.the-variants.{Absent, Present}
 use Rattle.table.specs.Table.{Entry, table}
 use Rattle.table.specs.Says.{childOf, rowsFor, Said, saidIn}
-use Rattle.message.specs.Fields.{fieldsIn, messageFrom, blank}
-use Rattle.message.specs.declared.kinds.Message.{Message}
+use Rattle.message.specs.Fields.{fieldsIn}
+use Rattle.message.specs.Messages.{messageFrom, blank}
+use Rattle.message.specs.declared.cells.Message.{Message}
 use Rattle.message.specs.declared.checking.Checked.{Checked}
 
 -- where the raw value of the attribute n stands, of attributes that stand from `at` on

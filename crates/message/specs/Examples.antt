@@ -1,10 +1,10 @@
 -- Worked examples: what each attribute hands out, and what the answers are. They hold by computation.
 use mathlib.Core.Path.{_≡_, refl}
-use mathlib.Core.List.{List, [], _∷_}
+use mathlib.Core.List.{List, [], _∷_, _++_}
 use mathlib.Core.Bool.{true, false}
 use Prim.Native.Nat.{ℕ, zero, suc}
 use Prim.Native.String.{String}
-use lib.ListN.{length}
+use lib.ListN.{length, replicate}
 use Rattle.number.specs.Bytes.{blank, digit, hex, nonEmpty, all, dropFront, keepBefore, dropBack, trim, valueFrom, before, behind, pointed}
 use Rattle.number.specs.Whole.{sized, signed, intOf}
 use Rattle.number.specs.Positive.{written, short, above, millionths as decimals, decimal, unsigned, parted, numberOf}
@@ -16,7 +16,9 @@ use Rattle.table.specs.Table.{words, someWords, whole, guid, version, positive,
 use Rattle.value.specs.declared.id.Guid.{Guid}
 use Rattle.value.specs.declared.text.Words.{Words}
 use Rattle.value.specs.declared.text.Words.the-variants.{Absent, Present}
-use Rattle.message.specs.Fields.{aWords, fieldsIn, fieldFor, messageFrom, blank as nothing}
+use Rattle.message.specs.Fields.{aWords, aWhole, aMeasure, aGuid, aFeatures, fieldsIn, fieldFor}
+use Rattle.message.specs.Cells.{NUMBERS, cellsOf}
+use Rattle.message.specs.Messages.{withZeros, messageFrom, blank as nothing}
 use Rattle.message.specs.Checked.{unread, messageOf, judgedTo}
 use Rattle.message.specs.declared.values.Whole.the-variants.{Present as IsWhole}
 use Rattle.message.specs.declared.values.Measure.the-variants.{Present as IsMeasure}
@@ -84,43 +86,95 @@ pub board-fields :
     ∷ "Weight" := "7"
     ∷ "WorkOrderId" := "w"
     ∷ [])
-    no-trees) .board
-    ≡ record {
-      id = someId;
-      by = at "BoardIdCreatedBy";
-      failed = IsWhole 1;
-      product = at "ProductTypeId";
-      flipped = IsWhole 2;
-      top = at "TopBarcode";
-      bottom = at "BottomBarcode";
-      length = IsMeasure 1000000;
-      width = IsMeasure 2000000;
-      thickness = IsMeasure 500000;
-      speed = IsMeasure 4000000;
-      above = IsMeasure 5000000;
-      below = IsMeasure 6000000;
-      weight = IsMeasure 7000000;
-      order = at "WorkOrderId";
-    }
-unfolding table fieldsIn fieldFor messageFrom tried judged guidOf filled may hex intOf signed sized numberOf parted unsigned decimal written short above decimals before behind trim dropFront dropBack keepBefore blank digit all nonEmpty valueFrom within
+    no-trees)
+    ≡ messageFrom 3
+    (aGuid someId
+    ∷ aWords (at "BoardIdCreatedBy")
+    ∷ aWhole (IsWhole 1)
+    ∷ aWords (at "ProductTypeId")
+    ∷ aWhole (IsWhole 2)
+    ∷ aWords (at "TopBarcode")
+    ∷ aWords (at "BottomBarcode")
+    ∷ aMeasure (IsMeasure 1000000)
+    ∷ aMeasure (IsMeasure 2000000)
+    ∷ aMeasure (IsMeasure 500000)
+    ∷ aMeasure (IsMeasure 4000000)
+    ∷ aMeasure (IsMeasure 5000000)
+    ∷ aMeasure (IsMeasure 6000000)
+    ∷ aMeasure (IsMeasure 7000000)
+    ∷ aWords (at "WorkOrderId")
+    ∷ [])
+unfolding table fieldsIn fieldFor tried judged guidOf filled may hex intOf signed sized numberOf parted unsigned decimal written short above decimals before behind trim dropFront dropBack keepBefore blank digit all nonEmpty valueFrom within
 board-fields = refl
 
+pub forecast-fields :
+    messageOf 11 spot
+    (tree (text "BoardForecast")
+    ("ForecastId" := "f"
+    ∷ "TimeUntilAvailable" := "9"
+    ∷ "BoardId" := "01234567-89ab-cdef-0123-456789abcdef"
+    ∷ "BoardIdCreatedBy" := ""
+    ∷ "FailedBoard" := "1"
+    ∷ "ProductTypeId" := "p"
+    ∷ "FlippedBoard" := "2"
+    ∷ "TopBarcode" := "t"
+    ∷ "BottomBarcode" := "b"
+    ∷ "Length" := "1"
+    ∷ "Width" := "2"
+    ∷ "Thickness" := ".5"
+    ∷ "ConveyorSpeed" := "4"
+    ∷ "TopClearanceHeight" := "5"
+    ∷ "BottomClearanceHeight" := "6"
+    ∷ "Weight" := "7"
+    ∷ "WorkOrderId" := "w"
+    ∷ [])
+    no-trees)
+    ≡ messageFrom 11
+    (aWords (at "ForecastId")
+    ∷ aMeasure (IsMeasure 9000000)
+    ∷ aGuid someId
+    ∷ aWords (at "BoardIdCreatedBy")
+    ∷ aWhole (IsWhole 1)
+    ∷ aWords (at "ProductTypeId")
+    ∷ aWhole (IsWhole 2)
+    ∷ aWords (at "TopBarcode")
+    ∷ aWords (at "BottomBarcode")
+    ∷ aMeasure (IsMeasure 1000000)
+    ∷ aMeasure (IsMeasure 2000000)
+    ∷ aMeasure (IsMeasure 500000)
+    ∷ aMeasure (IsMeasure 4000000)
+    ∷ aMeasure (IsMeasure 5000000)
+    ∷ aMeasure (IsMeasure 6000000)
+    ∷ aMeasure (IsMeasure 7000000)
+    ∷ aWords (at "WorkOrderId")
+    ∷ [])
+unfolding table fieldsIn fieldFor tried judged guidOf filled may hex intOf signed sized numberOf parted unsigned decimal written short above decimals before behind trim dropFront dropBack keepBefore blank digit all nonEmpty valueFrom within
+forecast-fields = refl
+
 pub service-fields :
-    messageOf 1 spot (tree (text "ServiceDescription") ("MachineId" := "m" ∷ "LaneId" := "7" ∷ "Version" := "1.6" ∷ []) (tree-then (featuring (tree-then (bare "FeatureQueryBoardInfo") no-trees)) no-trees)) .service
-    ≡ record { machine = at "MachineId"; lane = IsWhole 7; version = at "Version"; features = record { there = true; forecast = false; query = true; send = false } }
-unfolding table fieldsIn fieldFor messageFrom tried judged intOf signed sized trim dropFront dropBack keepBefore blank digit all nonEmpty valueFrom within
+    messageOf 1 spot (tree (text "ServiceDescription") ("MachineId" := "m" ∷ "LaneId" := "7" ∷ "Version" := "1.6" ∷ []) (tree-then (featuring (tree-then (bare "FeatureQueryBoardInfo") no-trees)) no-trees))
+    ≡ messageFrom 1 (aWords (at "MachineId") ∷ aWhole (IsWhole 7) ∷ aWords (at "Version") ∷ aFeatures (record { there = true; forecast = false; query = true; send = false }) ∷ [])
+unfolding table fieldsIn fieldFor tried judged intOf signed sized trim dropFront dropBack keepBefore blank digit all nonEmpty valueFrom within
 service-fields = refl
 
 pub other-fields :
-    (messageOf 2 spot (tree (text "Notification") ("NotificationCode" := "8" ∷ "Severity" := "3" ∷ "Description" := "d" ∷ []) no-trees) .notification
-    ≡ record { code = IsWhole 8; severity = IsWhole 3; description = at "Description" })
-    × (messageOf 5 spot (tree (text "MachineReady") ("FailedBoard" := "2" ∷ []) no-trees) .ready ≡ record { failed = IsWhole 2 })
-    × (messageOf 7 spot (tree (text "StartTransport") ("BoardId" := "01234567-89ab-cdef-0123-456789abcdef" ∷ "ConveyorSpeed" := "4" ∷ []) no-trees) .transport ≡ record { id = someId; speed = IsMeasure 4000000 })
-    × (messageOf 8 spot (tree (text "StopTransport") ("TransferState" := "3" ∷ "BoardId" := "01234567-89ab-cdef-0123-456789abcdef" ∷ []) no-trees) .transfer ≡ record { state = IsWhole 3; id = someId })
-    × (messageOf 9 spot (tree (text "TransportFinished") ("TransferState" := "1" ∷ "BoardId" := "01234567-89ab-cdef-0123-456789abcdef" ∷ []) no-trees) .transfer ≡ record { state = IsWhole 1; id = someId })
-    × (messageOf 10 spot (tree (text "CheckAlive") ("Type" := "2" ∷ "Id" := "i" ∷ []) no-trees) .alive ≡ record { ping = IsWhole 2; id = at "Id" })
-unfolding table fieldsIn fieldFor messageFrom tried judged guidOf filled may hex intOf signed sized numberOf parted unsigned decimal written short above decimals before behind trim dropFront dropBack keepBefore blank digit all nonEmpty valueFrom within
+    (messageOf 2 spot (tree (text "Notification") ("NotificationCode" := "8" ∷ "Severity" := "3" ∷ "Description" := "d" ∷ []) no-trees) ≡ messageFrom 2 (aWhole (IsWhole 8) ∷ aWhole (IsWhole 3) ∷ aWords (at "Description") ∷ []))
+    × (messageOf 5 spot (tree (text "MachineReady") ("FailedBoard" := "2" ∷ "ForecastId" := "f" ∷ []) no-trees) ≡ messageFrom 5 (aWhole (IsWhole 2) ∷ aWords (at "ForecastId") ∷ []))
+    × (messageOf 7 spot (tree (text "StartTransport") ("BoardId" := "01234567-89ab-cdef-0123-456789abcdef" ∷ "ConveyorSpeed" := "4" ∷ []) no-trees) ≡ messageFrom 7 (aGuid someId ∷ aMeasure (IsMeasure 4000000) ∷ []))
+    × (messageOf 8 spot (tree (text "StopTransport") ("TransferState" := "3" ∷ "BoardId" := "01234567-89ab-cdef-0123-456789abcdef" ∷ []) no-trees) ≡ messageFrom 8 (aWhole (IsWhole 3) ∷ aGuid someId ∷ []))
+    × (messageOf 9 spot (tree (text "TransportFinished") ("TransferState" := "1" ∷ "BoardId" := "01234567-89ab-cdef-0123-456789abcdef" ∷ []) no-trees) ≡ messageFrom 9 (aWhole (IsWhole 1) ∷ aGuid someId ∷ []))
+    × (messageOf 10 spot (tree (text "CheckAlive") ("Type" := "2" ∷ "Id" := "i" ∷ []) no-trees) ≡ messageFrom 10 (aWhole (IsWhole 2) ∷ aWords (at "Id") ∷ []))
+unfolding table fieldsIn fieldFor tried judged guidOf filled may hex intOf signed sized numberOf parted unsigned decimal written short above decimals before behind trim dropFront dropBack keepBefore blank digit all nonEmpty valueFrom within
 other-fields = (refl, refl, refl, refl, refl, refl)
+
+-- the numbers of a message: of an id whether it is there, of a text its place, of a number its value, of features their bits; zeros behind them
+pub message-numbers :
+    (messageFrom 7 (aGuid someId ∷ aMeasure (IsMeasure 4000000) ∷ []) ≡ record { kind = 7; cells = 1 ∷ 0 ∷ 0 ∷ 1 ∷ 4000000 ∷ 0 ∷ replicate 66 0; id = someId .bytes })
+    × (messageFrom 10 (aWhole (IsWhole 2) ∷ aWords (Present (record { start = 31; len = 4 })) ∷ []) ≡ record { kind = 10; cells = 1 ∷ 2 ∷ 0 ∷ 1 ∷ 31 ∷ 4 ∷ replicate 66 0; id = replicate 36 0 })
+    × (messageFrom 1 (aWords Absent ∷ aWhole (IsWhole 1) ∷ aWords Absent ∷ aFeatures (record { there = true; forecast = true; query = false; send = true }) ∷ []) ≡ record { kind = 1; cells = 0 ∷ 0 ∷ 0 ∷ 1 ∷ 1 ∷ 0 ∷ 0 ∷ 0 ∷ 0 ∷ 1 ∷ 5 ∷ 0 ∷ replicate 60 0; id = replicate 36 0 })
+    × (messageFrom 5 [] ≡ nothing 5)
+unfolding messageFrom withZeros cellsOf
+message-numbers = (refl, refl, refl, refl)
 
 -- a text that is required with another attribute: its place, or none where it is not looked at
 pub with-another :

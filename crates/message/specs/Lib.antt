@@ -1,6 +1,7 @@
--- What is handed out of a message: Fields, Checked, Handed. The same as numbers: Cells.
+-- What is handed out of a message: Fields, Cells, Messages, Checked, Handed.
 pub mod Fields
+pub mod Cells
+pub mod Messages
 pub mod Checked
 pub mod Handed
-pub mod Cells
 pub mod Examples

@@ -1,5 +1,5 @@
 // What checking hands out.
-use crate::kinds::Message;
+use crate::cells::Message;
 
 /// What stands behind the glue in front of an input. Refusal 0: a message from start to end, and what it says. 1: the
 /// beginning of one at start; 2: none at start, as the byte at place shows; 3: one at start that is too long. 4, 5, 6: a

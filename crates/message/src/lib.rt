@@ -1,6 +1,7 @@
-// The messages: a struct for each kind, what is handed out of a message and what is to be sent. Types and definitions only.
+// The messages: what is handed out of a message, and what is to be sent. Types and definitions only.
+pub mod cells;
 pub mod checking;
-pub mod kinds;
 pub mod values;
 
+pub use cells::Message;
 pub use checking::Checked;

@@ -1,22 +1,28 @@
 -- What is handed out of a message is what its reading says.
 use mathlib.Core.Path.{_≡_, refl, sym, ap, subst, _∙_}
-use mathlib.Core.List.{List, _∷_, _++_}
+use mathlib.Core.List.{List, _++_}
+use mathlib.Core.Bool.{Bool, true, false, cond}
 use Prim.Native.Nat.{ℕ, _-_, _*_}
 use native.Mathlib.Omega.{arith}
 use lib.ListN.{length, drop, replicate, length-replicate}
+use lib.Dec.{eqb, leb}
 use Rattle.grammar.specs.Bytes.{Bytes}
+use Rattle.grammar.specs.Tree.{Tree}
 use Rattle.grammar.specs.Message.{readLayout}
 use Rattle.table.specs.Table.{Row, rowsOf}
 use Rattle.table.specs.Says.{refusalOf, childOf, saidOf}
 use Rattle.table.specs.Theorems.{rows-table}
 use Rattle.value.specs.Ids.{noId}
-use Rattle.message.specs.Fields.{Field, fieldsIn, messageFrom, blank}
-use Rattle.message.specs.Cells.{NUMBERS, fieldsFrom, cellsOf, numbersOf, messageBy, idCell, idBy, Told}
+use Rattle.value.specs.declared.text.Words.{Words}
+use Rattle.message.specs.Fields.{Field, fieldsIn}
+use Rattle.message.specs.Cells.{NUMBERS, isThere, cellAt, fieldsFrom, cellsOf}
 use Rattle.message.specs.Checked.{placesIn, messageOf, Checks, ends as endsSo, more as moreSo, malformed as malformedSo, too-long as tooLongSo}
+use Rattle.message.specs.Messages.{withZeros, idAmong, messageFrom, blank, messageBy, fieldsOf, idOf, idCell, idBy}
 use Rattle.message.specs.declared.checking.Checked.{Checked}
-use Rattle.message.specs.declared.kinds.Message.{Message}
+use Rattle.message.specs.declared.cells.Message.{Message}
 use Rattle.message.proofs.MessageLaws.{message-table, is-refused, is-accepted}
-use Rattle.structs.proofs.KindLaws.{fields-of, id-of-cells, blank-is, blank-told}
+use Rattle.message.proofs.GuidLaws.{id-of-cells}
+use Rattle.message.proofs.BackLaws.{handed-id}
 use Rattle.reads.specs.Whole.{outcomeOf, CellsChecked, ends, more, malformed, too-long, ChecksInto}
 use Rattle.reads.specs.Ids.{TakesId}
 use Rattle.reads.specs.declared.checking.Found.{Found}
@@ -39,12 +45,18 @@ all-cells e = ap length e ∙ length-replicate {A = ℕ} NUMBERS 0
 pub cleared-so : (n : ℕ) {told : List ℕ} → told ≡ replicate n 0 → n ≡ NUMBERS → told ≡ zeros
 cleared-so n e h = e ∙ ap (λ (n : ℕ). replicate n 0) h
 
-accepted-told : (k : ℕ) (fields : List Field) (after : List ℕ) (id : Bytes) → after ≡ cellsOf fields ++ drop (3 * length (rowsOf k)) zeros → length (cellsOf fields) ≡ 3 * length (rowsOf k) → fieldsFrom (rowsOf k) 0 after id ≡ fields → id ≡ idBy (idCell k) after id → Told k after id
-unfolding numbersOf messageFrom
-accepted-told k fields after id a n f i = record { numbers = ap (λ (l : List ℕ). k ∷ l) (a ∙ ap (λ (n : ℕ). cellsOf fields ++ drop n zeros) (sym n) ∙ sym (ap (λ (x : List Field). cellsOf x ++ drop (length (cellsOf x)) zeros) (fields-of after id k ∙ f))); named = i ∙ sym (id-of-cells after id k) }
+-- cells and an id are the message of these fields
+made-of : (k : ℕ) (fields : List Field) {told : List ℕ} {id : Bytes} → told ≡ cellsOf fields ++ drop (3 * length (rowsOf k)) zeros → length (cellsOf fields) ≡ 3 * length (rowsOf k) → id ≡ idAmong fields → messageBy k told id ≡ messageFrom k fields
+unfolding messageFrom withZeros
+made-of k fields {told} {id} a n i =
+    ap (λ (c : List ℕ). messageBy k c id) (a ∙ ap (λ (n : ℕ). cellsOf fields ++ drop n zeros) (sym n)) ∙ ap (messageBy k (cellsOf fields ++ drop (length (cellsOf fields)) zeros)) i
+
+id-among : (k : ℕ) (fields : List Field) (told : List ℕ) (id : Bytes) → fieldsFrom (rowsOf k) 0 told id ≡ fields → id ≡ idBy (idCell k) told id → id ≡ idAmong fields
+unfolding idOf fieldsOf
+id-among k fields told id f i = i ∙ sym (id-of-cells told id k) ∙ ap idAmong f
 
 pub into-accepted : {s : Bytes} {before after told : List ℕ} {o : Outcome} {id : Bytes} {r : Found} → before ≡ zeros → CellsChecked s before after o → o .refusal ≡ 0 → TakesId s (idCell (o .kind)) after told id → r ≡ foundBy o id → length told ≡ NUMBERS → ChecksInto s told r
-into-accepted {s} {before} {after} {told} {o} {id} {r} b (ends start end p l w e c) z i h n = subst (λ (r : Found). ChecksInto s told r) (sym h) (record { checks = checks-so; told = subst (λ (k : ℕ). Told k told id) (sym kind) told-so; long = n })
+into-accepted {s} {before} {after} {told} {o} {id} {r} b (ends start end p l w e c) z i h n = subst (λ (r : Found). ChecksInto s told r) (sym h) (record { checks = checks-so; long = n })
   where
     k : ℕ
     k = saidOf (readLayout l) .kind
@@ -61,11 +73,14 @@ into-accepted {s} {before} {after} {told} {o} {id} {r} b (ends start end p l w e
     x : AsFields s start end l w after id k (drop (3 * length (rowsOf k)) before) told
     x = as-fields s start end l w after id k (drop (3 * length (rowsOf k)) before) told c (sym (ap (λ (rows : List Row). refusalOf rows (childOf (readLayout l))) (rows-table k (childOf (readLayout l)))) ∙ refused) (t .id) (t .cells)
 
-    told-so : Told k told id
-    told-so = accepted-told k (fieldsIn (rowsOf k) (placesIn start l) (childOf (readLayout l))) told id (x .told ∙ ap (λ (y : List ℕ). cellsOf (fieldsIn (rowsOf k) (placesIn start l) (childOf (readLayout l))) ++ drop (3 * length (rowsOf k)) y) b) (x .long) (x .fields) (t .by)
+    fields : List Field
+    fields = fieldsIn (rowsOf k) (placesIn start l) (childOf (readLayout l))
 
     said : messageBy (o .kind) told id ≡ messageOf k (placesIn start l) (childOf (readLayout l))
-    said = ap (λ (k : ℕ). messageBy k told id) kind ∙ ap (messageFrom k) (x .fields) ∙ sym (message-table k (placesIn start l) (childOf (readLayout l)))
+    said =
+        ap (λ (k : ℕ). messageBy k told id) kind
+        ∙ made-of k fields (x .told ∙ ap (λ (y : List ℕ). cellsOf fields ++ drop (3 * length (rowsOf k)) y) b) (x .long) (id-among k fields told id (x .fields) (t .by))
+        ∙ sym (message-table k (placesIn start l) (childOf (readLayout l)))
 
     checks-so : Checks s (answeredBy o (messageBy (o .kind) told id))
     checks-so = endsSo start end p l w (ap (answeredBy o) said ∙ ap (λ (o : Outcome). answeredBy o (messageOf k (placesIn start l) (childOf (readLayout l)))) e ∙ is-accepted (saidOf (readLayout l) .refusal) start end k (messageOf k (placesIn start l) (childOf (readLayout l))) refused)
@@ -87,8 +102,37 @@ check-refused {s} {before} {after} {o} {m} {r} x z q h = go x
     go (too-long start p e c) = tooLongSo start p (told e)
 
 pub into-refused : {s : Bytes} {before after told : List ℕ} {o : Outcome} {r : Found} → CellsChecked s before after o → (o .refusal ≡ 0 → ⊥) → told ≡ zeros → r ≡ foundBy o (noId .bytes) → ChecksInto s told r
-into-refused {s} {told} {o} x z t h = subst (λ (r : Found). ChecksInto s told r) (sym h) (subst (λ (l : List ℕ). ChecksInto s l (foundBy o (noId .bytes))) (sym t) (record { checks = check-refused x z (blank-is (o .kind) (noId .bytes)) refl; told = blank-told (o .kind); long = all-cells refl }))
+into-refused {s} {told} {o} x z t h = subst (λ (r : Found). ChecksInto s told r) (sym h) (subst (λ (l : List ℕ). ChecksInto s l (foundBy o (noId .bytes))) (sym t) (record { checks = check-refused x z refl refl; long = all-cells refl }))
 
--- the struct that the cells are
-pub handed : {s : Bytes} {cells : List ℕ} {f : Found} {m : Message} → ChecksInto s cells f → m ≡ messageBy (f .kind) cells (f .id) → Checks s (record { refusal = f .refusal; start = f .start; end = f .end; place = f .place; message = m })
-handed {s} {cells} {f} x e = subst (λ (m : Message). Checks s (record { refusal = f .refusal; start = f .start; end = f .end; place = f .place; message = m })) (sym e) (x .checks)
+-- the message that the cells are
+pub handed : {s : Bytes} {cells : List ℕ} {f : Found} → ChecksInto s cells f → Checks s (record { refusal = f .refusal; start = f .start; end = f .end; place = f .place; message = messageBy (f .kind) cells (f .id) })
+handed x = x .checks
+
+-- the id of a message that is handed out is its BoardId
+blank-named : (k : ℕ) → noId .bytes ≡ idOf (blank k)
+blank-named k = sym (id-of-cells zeros (noId .bytes) k ∙ go (leb NUMBERS (idCell k)) (isThere (cellAt zeros (idCell k))))
+  where
+    go : (a b : Bool) → cond a (noId .bytes) (cond b (noId .bytes) (noId .bytes)) ≡ noId .bytes
+    go true b = refl
+    go false true = refl
+    go false false = refl
+
+message-named : (k : ℕ) (place : Bytes → Words) (t : Tree) → messageOf k place t .id ≡ idOf (messageOf k place t)
+unfolding messageFrom
+message-named k place t = ap (λ (m : Message). m .id) (message-table k place t) ∙ sym (handed-id k place t)
+
+pub handed-named : {s : Bytes} {c : Checked} → Checks s c → c .message .id ≡ idOf (c .message)
+handed-named (endsSo start end p l w e) = subst (λ (c : Checked). c .message .id ≡ idOf (c .message)) (sym e) (go (eqb (saidOf (readLayout l) .refusal) 0))
+  where
+    k : ℕ
+    k = saidOf (readLayout l) .kind
+
+    m : Message
+    m = messageOf k (placesIn start l) (childOf (readLayout l))
+
+    go : (b : Bool) → cond b m (blank k) .id ≡ idOf (cond b m (blank k))
+    go true = message-named k (placesIn start l) (childOf (readLayout l))
+    go false = blank-named k
+handed-named (moreSo start p e) = subst (λ (c : Checked). c .message .id ≡ idOf (c .message)) (sym e) (blank-named 0)
+handed-named (malformedSo start place p e) = subst (λ (c : Checked). c .message .id ≡ idOf (c .message)) (sym e) (blank-named 0)
+handed-named (tooLongSo start p e) = subst (λ (c : Checked). c .message .id ≡ idOf (c .message)) (sym e) (blank-named 0)

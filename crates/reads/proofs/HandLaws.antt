@@ -20,9 +20,10 @@ use Rattle.table.specs.Theorems.{plainNeed, plainRows, plain-table, plain-flag}
 use Rattle.message.proofs.MessageLaws.{plain-placed}
 use Rattle.table.specs.Says.{aText, anInt, millionths, anId, noted, Result, absent, present, refused, refusalIn, when, without, judged, given, tried, first, refusalOf, childOf}
 use Rattle.message.specs.Fields.{Field, aWords, aWhole, aMeasure, aGuid, aFeatures, wholeIn, measureIn, idIn, featuresIn, fieldFor, fieldOf, fieldsIn}
-use Rattle.message.specs.Cells.{NUMBERS, wordsBy, wholeBy, measureBy, guidBy, featuresBy, fieldBy, cellAt, fieldsFrom, flag, wordsCell, wholeCell, measureCell, featuresCell, cellOf, cellsOf, idCell}
+use Rattle.message.specs.Cells.{NUMBERS, wordsBy, wholeBy, measureBy, guidBy, featuresBy, fieldBy, cellAt, fieldsFrom, flag, wordsCell, wholeCell, measureCell, featuresCell, cellOf, cellsOf}
 use Rattle.message.specs.Checked.{placesIn}
 use Rattle.message.specs.Handed.{attributesOf}
+use Rattle.message.specs.Messages.{idCell}
 use Rattle.message.specs.declared.values.Whole.{Whole}
 use Rattle.message.specs.declared.values.Whole.the-variants.{Absent as NoWhole, Present as IsWhole}
 use Rattle.message.specs.declared.values.Measure.{Measure}
@@ -32,7 +33,7 @@ use Rattle.reads.specs.Ids.{IdOf, IdAt, bared, taken}
 use Rattle.reads.proofs.FindLaws.{first-of}
 use Rattle.reads.proofs.PlaceLaws.{has-worth}
 use Rattle.reads.proofs.RowLaws.{plain, tried-given}
-use Rattle.reads.proofs.TableLaws.{both, noGuid, oneGuid, one-guid, no-guid-cell, guid-cell}
+use Rattle.message.proofs.GuidLaws.{both, noGuid, oneGuid, one-guid, no-guid-cell, guid-cell}
 use Rattle.reads.proofs.LoopLaws.{three, next-cell}
 use Rattle.reads.proofs.OutlineLaws.{there-reads, absent-worth}
 

@@ -16,7 +16,8 @@ use Rattle.value.specs.Loose.{loosen}
 use Rattle.value.specs.Ids.{noId, idRead, IdReads}
 use Rattle.value.specs.declared.id.Guid.{Guid}
 use Rattle.table.specs.Table.{rowsOf, guidCellIn}
-use Rattle.message.specs.Cells.{NUMBERS, cellAt, idCell}
+use Rattle.message.specs.Cells.{NUMBERS, cellAt}
+use Rattle.message.specs.Messages.{idCell}
 use Rattle.reads.specs.Ids.{IdOf, IdAt, TakesId}
 use Rattle.reads.proofs.JudgeLaws.{as-read}
 

@@ -1,11 +1,10 @@
 -- What the promises of `check` and `check_into` determine, and that what is handed out is the one reading's.
 use mathlib.Core.Path.{_≡_, refl, sym, ap, subst, _∙_}
 use mathlib.Core.List.{List}
-use mathlib.Core.List.{List, _∷_}
 use mathlib.Core.Bool.{Bool, cond}
 use Prim.Native.Nat.{ℕ, _-_}
 use native.Mathlib.Omega.{arith}
-use lib.ListN.{take, drop, getD}
+use lib.ListN.{take, drop}
 use borrow.Author.Tests.{eq-eqb}
 use Rattle.grammar.specs.Bytes.{Bytes}
 use Rattle.grammar.specs.Message.{Layout, Laid, readLayout}
@@ -13,15 +12,15 @@ use Rattle.grammar.specs.Answer.{Answer as PaperAnswer, Answers, endsAt, moreFr
 use Rattle.model.specs.Theorems.{one-layout, one-reading, answers-only}
 use Rattle.table.specs.Table.{Entry}
 use Rattle.table.specs.Says.{childOf, Said, saidIn}
-use Rattle.message.specs.Fields.{blank}
-use Rattle.message.specs.Checked.{unread, messageIn, placesIn, checkedIn, ChecksBy, ends, more, malformed, too-long}
+use Rattle.message.specs.Checked.{unread, messageIn, placesIn, checkedIn, ChecksBy, Checks, ends, more, malformed, too-long}
 use Rattle.message.specs.Handed.{HandedBy}
-use Rattle.message.specs.Cells.{numbersOf, messageBy, idOf}
+use Rattle.message.specs.Messages.{blank, messageBy, idOf}
 use Rattle.message.specs.declared.checking.Checked.{Checked}
-use Rattle.message.specs.declared.kinds.Message.{Message}
+use Rattle.message.specs.declared.cells.Message.{Message}
 use Rattle.reads.specs.Whole.{handedBy, ChecksInto}
 use Rattle.reads.specs.declared.checking.Found.{Found}
 use Rattle.reads.proofs.OutlineLaws.{there-reads, absent-not}
+use Rattle.reads.proofs.CheckLaws.{handed-named}
 
 -- the result of the call for an answer of the paper, by a given table
 abbrev ResultOf : List Entry → Bytes → PaperAnswer → Checked → Type 0
@@ -64,14 +63,16 @@ handed-out (more start p e) h = absurd (let z = sym (ap (λ (r : Checked). r .re
 handed-out (malformed start place p e) h = absurd (let z = sym (ap (λ (r : Checked). r .refusal) e) ∙ h in omega arith)
 handed-out (too-long start p e) h = absurd (let z = sym (ap (λ (r : Checked). r .refusal) e) ∙ h in omega arith)
 
+-- the id of a message that is handed out is its BoardId; zeros if it has none
+pub id-handed : {s : Bytes} {r : Checked} → Checks s r → r .message .id ≡ idOf (r .message)
+id-handed p = handed-named p
+
 -- no second result, and no other cells, satisfy the promise of `check_into`
 pub into-only : {s : Bytes} {cells cells′ : List ℕ} {r r′ : Found} → ChecksInto s cells r → ChecksInto s cells′ r′ → (r ≡ r′) × (cells ≡ cells′)
 into-only {cells = cells} {cells′} {r} {r′} p q =
     let e : handedBy r cells ≡ handedBy r′ cells′ = check-only (p .checks) (q .checks) in
     let m : messageBy (r .kind) cells (r .id) ≡ messageBy (r′ .kind) cells′ (r′ .id) = ap (λ (c : Checked). c .message) e in
-    let n : r .kind ∷ cells ≡ r′ .kind ∷ cells′ = p .told .numbers ∙ ap numbersOf m ∙ sym (q .told .numbers) in
-    let i : r .id ≡ r′ .id = p .told .named ∙ ap idOf m ∙ sym (q .told .named) in
-    (same (ap (λ (c : Checked). c .refusal) e) (ap (λ (l : List ℕ). getD l 0 0) n) (ap (λ (c : Checked). c .start) e) (ap (λ (c : Checked). c .end) e) (ap (λ (c : Checked). c .place) e) i, ap (drop 1) n)
+    (same (ap (λ (c : Checked). c .refusal) e) (ap (λ (m : Message). m .kind) m) (ap (λ (c : Checked). c .start) e) (ap (λ (c : Checked). c .end) e) (ap (λ (c : Checked). c .place) e) (ap (λ (m : Message). m .id) m), ap (λ (m : Message). m .cells) m)
   where
     same : {a b c d e a′ b′ c′ d′ e′ : ℕ} {i i′ : Bytes} → a ≡ a′ → b ≡ b′ → c ≡ c′ → d ≡ d′ → e ≡ e′ → i ≡ i′
         → _≡_ {A = Found} (record { refusal = a; kind = b; start = c; end = d; place = e; id = i }) (record { refusal = a′; kind = b′; start = c′; end = d′; place = e′; id = i′ })

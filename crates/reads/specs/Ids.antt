@@ -8,7 +8,8 @@ use lib.Dec.{leb}
 use Rattle.grammar.specs.Bytes.{Bytes}
 use Rattle.number.specs.Guid.{guidOf}
 use Rattle.value.specs.Text.{Text}
-use Rattle.message.specs.Cells.{NUMBERS, cellAt, idBy}
+use Rattle.message.specs.Cells.{NUMBERS, cellAt}
+use Rattle.message.specs.Messages.{idBy}
 
 -- r is the GUID that the raw value reads as
 pub record IdOf (raw r : Bytes) : Type 0 where

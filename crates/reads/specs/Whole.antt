@@ -9,7 +9,8 @@ use Rattle.grammar.specs.Answer.{Answers, endsAt, moreFrom, malformedAt, tooLon
 use Rattle.table.specs.Table.{rowsOf}
 use Rattle.table.specs.Says.{childOf, saidOf}
 use Rattle.message.specs.Checked.{placesIn, Checks}
-use Rattle.message.specs.Cells.{NUMBERS, cellsOf, messageBy, Told}
+use Rattle.message.specs.Cells.{NUMBERS, cellsOf}
+use Rattle.message.specs.Messages.{messageBy}
 use Rattle.message.specs.declared.checking.Checked.{Checked}
 use Rattle.reads.specs.Kept.{keptIn}
 use Rattle.reads.specs.declared.checking.Found.{Found}
@@ -32,8 +33,7 @@ pub data CellsChecked (s : Bytes) (before after : List ℕ) (r : Outcome) : Type
 abbrev pub handedBy : Found → List ℕ → Checked
 handedBy r cells = record { refusal = r .refusal; start = r .start; end = r .end; place = r .place; message = messageBy (r .kind) cells (r .id) }
 
--- it is what checking hands out, and they are told as that message is
+-- it is what checking hands out
 pub record ChecksInto (s : Bytes) (cells : List ℕ) (r : Found) : Type 0 where
   pub checks : Checks s (handedBy r cells)
-  pub told : Told (r .kind) cells (r .id)
   pub long : length cells ≡ NUMBERS

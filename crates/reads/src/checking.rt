@@ -1,15 +1,16 @@
 // What a message says.
 ghost use mathlib.Core.Path.{_≡_};
 ghost use lib.ListN.{replicate};
-ghost use Rattle.message.specs.Cells.{NUMBERS};
+ghost use Rattle.message.specs.Cells.{NUMBERS as MANY};
 ghost use Rattle.message.specs.Checked.{Checks};
 ghost use Rattle.reads.specs.Whole.{ChecksInto};
 use crate::ids::take_id;
 use crate::whole::Outcome;
 use crate::whole::check_cells;
+use cells::clear;
 use message::Checked;
-use structs::clear;
-use structs::message_of;
+use message::Message;
+use message::cells::NUMBERS;
 
 /// What stands behind the glue in front of an input, as message::Checked says; what a message says stands in cells, but for its BoardId.
 pub struct Found {
@@ -36,7 +37,7 @@ fn told(o: Outcome, id: [u8; 36]) -> Found
 
 /// Reads the message behind the glue in front of s, and tries its attributes. What it says stands in the cells then; they stay zeros if it is refused.
 pub fn check_into(s: &[u8], cells: &mut [u64]) -> Found
-    requires { ⌜ now cells ≡ replicate NUMBERS 0 ⌝ }
+    requires { ⌜ now cells ≡ replicate MANY 0 ⌝ }
     ensures { λ r. ⌜ ChecksInto (now (s .entry)) (now (cells .exit)) r ⌝ }
 {
     let o = check_cells(s, &mut *cells);
@@ -52,10 +53,14 @@ pub fn check_into(s: &[u8], cells: &mut [u64]) -> Found
 pub fn check(s: &[u8]) -> Checked
     ensures { λ r. ⌜ Checks (now (s .entry)) r ⌝ }
 {
-    let mut cells = [0u64; 72];
+    let mut cells = [0u64; NUMBERS];
     let f = check_into(s, &mut cells);
     let id = f.id;
-    let message = message_of(f.kind, &cells, id);
+    let message = Message {
+        kind: f.kind,
+        cells: cells,
+        id: id,
+    };
     Checked {
         refusal: f.refusal,
         start: f.start,

@@ -4,9 +4,10 @@ ghost use mathlib.Core.Bool.{true};
 ghost use Prim.Native.Nat.{_≤_};
 ghost use lib.ListN.{length};
 ghost use Rattle.value.specs.Text.{asRead};
-ghost use Rattle.message.specs.Cells.{NUMBERS, idCell};
+ghost use Rattle.message.specs.Cells.{NUMBERS};
+ghost use Rattle.message.specs.Messages.{idCell};
 ghost use Rattle.reads.specs.Ids.{IdOf, IdAt, TakesId};
-use crate::cells::put;
+use crate::kind_rows::put;
 use rows::data::NO_ID;
 use rows::data::id_cell;
 

@@ -1,12 +1,12 @@
 // What a message says. One loop tries the rows of a message's kind on its tag, and puts down a cell of three numbers for each; a message that is not
-// refused is handed out as the struct of its kind, made from the cells.
-mod cells;
+// refused is handed out as its kind, its cells and its BoardId.
 mod checking;
 mod features;
 pub mod find;
 mod first;
 mod ids;
 mod judge;
+mod kind_rows;
 pub mod tried;
 pub mod trying;
 mod whole;

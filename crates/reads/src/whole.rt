@@ -4,7 +4,7 @@ ghost use Prim.Native.Nat.{_≤_};
 ghost use lib.ListN.{length};
 ghost use Rattle.message.specs.Cells.{NUMBERS as MOST};
 ghost use Rattle.reads.specs.Whole.{outcomeOf, CellsChecked};
-use crate::cells::check_rows;
+use crate::kind_rows::check_rows;
 use reader::answer::Answer;
 use rows::data::NAMES;
 use rows::data::NUMBERS;

@@ -7,7 +7,7 @@ ghost use Rattle.rows.specs.Coding.{numbers as coding, names as letters,
 /// The first and the last kind.
 pub const FIRST: u8 = 1;
 
-pub const LAST: u8 = 10;
+pub const LAST: u8 = 11;
 
 /// Where the cell of no BoardId stands: behind all cells.
 pub const NO_ID: usize = 72;
@@ -16,7 +16,7 @@ pub const NO_ID: usize = 72;
 pub const WIDTH: usize = 24;
 
 /// The names of the features, then those of the rows. The line of a name is its number.
-pub const NAMES: [u8; 672] = *b"\
+pub const NAMES: [u8; 720] = *b"\
     FeatureBoardForecast    \
     FeatureQueryBoardInfo   \
     FeatureSendBoardInfo    \
@@ -42,12 +42,14 @@ pub const NAMES: [u8; 672] = *b"\
     BottomClearanceHeight   \
     Weight                  \
     WorkOrderId             \
+    ForecastId              \
     TransferState           \
     Type                    \
-    Id                      ";
+    Id                      \
+    TimeUntilAvailable      ";
 
 /// The names of the messages, kind 1 first.
-pub const KIND_NAMES: [u8; 240] = *b"\
+pub const KIND_NAMES: [u8; 264] = *b"\
     ServiceDescription      \
     Notification            \
     BoardAvailable          \
@@ -57,11 +59,12 @@ pub const KIND_NAMES: [u8; 240] = *b"\
     StartTransport          \
     StopTransport           \
     TransportFinished       \
-    CheckAlive              ";
+    CheckAlive              \
+    BoardForecast           ";
 
 /// The rows of all kinds, in table order. In hex: the form (0 child, 1 text, 2 non-empty text, 3 int, 4 GUID, 5 Version, 6 positive number); 01 if the
 /// attribute may be missing; the least int; the largest, or the longest text; the line and the length of the name.
-pub const NUMBERS: [u64; 31] = [
+pub const NUMBERS: [u64; 49] = [
     // MachineId
     0x1_00_0000_0050_03_09,
     // LaneId
@@ -108,26 +111,62 @@ pub const NUMBERS: [u64; 31] = [
     0x1_01_0000_0050_18_0B,
     // FailedBoard
     0x3_00_0000_0002_0C_0B,
+    // ForecastId
+    0x1_01_0000_0050_19_0A,
     // BoardId
     0x4_00_0000_0000_0A_07,
     // ConveyorSpeed
     0x6_01_0000_0000_14_0D,
     // TransferState
-    0x3_00_0001_0003_19_0D,
+    0x3_00_0001_0003_1A_0D,
     // BoardId
     0x4_00_0000_0000_0A_07,
     // TransferState
-    0x3_00_0001_0003_19_0D,
+    0x3_00_0001_0003_1A_0D,
     // BoardId
     0x4_00_0000_0000_0A_07,
     // Type
-    0x3_01_0001_0002_1A_04,
+    0x3_01_0001_0002_1B_04,
     // Id
-    0x1_01_0000_0050_1B_02,
+    0x1_01_0000_0050_1C_02,
+    // ForecastId
+    0x1_01_0000_0050_19_0A,
+    // TimeUntilAvailable
+    0x6_01_0000_0000_1D_12,
+    // BoardId
+    0x4_01_0000_0000_0A_07,
+    // BoardIdCreatedBy
+    0x1_01_0000_0050_0B_10,
+    // FailedBoard
+    0x3_00_0000_0002_0C_0B,
+    // ProductTypeId
+    0x1_01_0000_00FE_0D_0D,
+    // FlippedBoard
+    0x3_00_0000_0002_0E_0C,
+    // TopBarcode
+    0x1_01_0000_00FE_0F_0A,
+    // BottomBarcode
+    0x1_01_0000_00FE_10_0D,
+    // Length
+    0x6_01_0000_0000_11_06,
+    // Width
+    0x6_01_0000_0000_12_05,
+    // Thickness
+    0x6_01_0000_0000_13_09,
+    // ConveyorSpeed
+    0x6_01_0000_0000_14_0D,
+    // TopClearanceHeight
+    0x6_01_0000_0000_15_12,
+    // BottomClearanceHeight
+    0x6_01_0000_0000_16_15,
+    // Weight
+    0x6_01_0000_0000_17_06,
+    // WorkOrderId
+    0x1_01_0000_0050_18_0B,
 ];
 
 /// In hex: where the cell of each kind's BoardId stands, 48 if it has none; where its rows start; the length of its name. Last, where the rows end.
-pub const KINDS: [u64; 12] = [
+pub const KINDS: [u64; 13] = [
     // none
     0x48_00_00,
     // ServiceDescription
@@ -141,17 +180,19 @@ pub const KINDS: [u64; 12] = [
     // MachineReady
     0x48_16_0C,
     // RevokeMachineReady
-    0x48_17_12,
+    0x48_18_12,
     // StartTransport
-    0x00_17_0E,
+    0x00_18_0E,
     // StopTransport
-    0x03_19_0D,
+    0x03_1A_0D,
     // TransportFinished
-    0x03_1B_11,
+    0x03_1C_11,
     // CheckAlive
-    0x48_1D_0A,
+    0x48_1E_0A,
+    // BoardForecast
+    0x06_20_0D,
     // the end
-    0x48_1F_00,
+    0x48_31_00,
 ];
 
 /// A row of the table: its form, whether it may be missing, its limits, and the line and the length of its name.

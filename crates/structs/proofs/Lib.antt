@@ -1,6 +1,3 @@
-pub mod CellLaws
-pub mod MadeLaws
-pub mod LayLaws
-pub mod NumberLaws
 pub mod KindLaws
+pub mod LayLaws
 pub mod Theorems

@@ -41,7 +41,7 @@ many zero = []
 many (suc n) = 97 ∷ many n
 
 -- "a name not in the attribute table is kind 0": byte for byte, and then no attribute counts
-pub unknown : Answers (says "checkalive" ("Type" := "9" ∷ [])) 0 0 × Answers (says "BoardForecast" []) 0 0
+pub unknown : Answers (says "checkalive" ("Type" := "9" ∷ [])) 0 0 × Answers (says "QueryBoardInfo" []) 0 0
 unfolding table refusalOf
 unknown = ((refl, refl), (refl, refl))
 
@@ -95,6 +95,19 @@ ranges = ((refl, refl), (refl, refl), (refl, refl), (refl, refl), (refl, refl), 
 pub optional : saidOf (says "CheckAlive" ("Id" := "" ∷ [])) .values ≡ absent ∷ present (aText []) ∷ []
 unfolding table valuesOf tried judged
 optional = refl
+
+-- "BoardForecast, kind 11": its FailedBoard and FlippedBoard alone must be there; an empty BoardIdCreatedBy is right, a BoardId must be one
+pub forecasts :
+    Answers (says "BoardForecast" []) 11 4
+    × Answers (says "BoardForecast" ("FailedBoard" := "0" ∷ "FlippedBoard" := "2" ∷ [])) 11 0
+    × Answers (says "BoardForecast" ("FailedBoard" := "0" ∷ "FlippedBoard" := "2" ∷ "BoardIdCreatedBy" := "" ∷ "ForecastId" := "" ∷ "TimeUntilAvailable" := ".5" ∷ [])) 11 0
+    × Answers (says "BoardForecast" ("FailedBoard" := "0" ∷ "FlippedBoard" := "2" ∷ "BoardId" := "x" ∷ [])) 11 6
+    × Answers (says "BoardForecast" ("FailedBoard" := "0" ∷ "FlippedBoard" := "2" ∷ "TimeUntilAvailable" := "0" ∷ [])) 11 6
+    × Answers (tree (text "Hermes") [] (tree-then (tree (text "BoardForecast") (record { name = text "ForecastId"; value = many 81 } ∷ []) no-trees) no-trees)) 11 5
+    × Answers (tree (text "Hermes") [] (tree-then (tree (text "MachineReady") ("FailedBoard" := "0" ∷ record { name = text "ForecastId"; value = many 80 } ∷ []) no-trees) no-trees)) 5 0
+    × Answers (tree (text "Hermes") [] (tree-then (tree (text "MachineReady") ("FailedBoard" := "0" ∷ record { name = text "ForecastId"; value = many 81 } ∷ []) no-trees) no-trees)) 5 5
+unfolding table refusalOf tried judged guidOf filled may hex intOf signed sized numberOf parted unsigned decimal written short above decimals before behind trim dropFront dropBack keepBefore blank digit all nonEmpty valueFrom within
+forecasts = ((refl, refl), (refl, refl), (refl, refl), (refl, refl), (refl, refl), (refl, refl), (refl, refl), (refl, refl))
 
 -- the root's attributes never count as the message's
 pub root-ignored : saidOf (tree (text "Hermes") ("Type" := "9" ∷ "Timestamp" := "x" ∷ []) (tree-then (bare "CheckAlive") no-trees)) .values ≡ absent ∷ absent ∷ []

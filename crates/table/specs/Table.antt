@@ -1,10 +1,10 @@
--- The attribute table of document 01: "Message | Attributes in order (opt = may be missing)".
+-- The attribute table of document 01, "Message | Attributes in order (opt = may be missing)", and of order 3 (BoardForecast, MachineReady's ForecastId).
 use mathlib.Core.List.{List, [], _∷_}
 use mathlib.Core.Bool.{Bool, true, false, _||_, cond}
 use Prim.Native.Nat.{ℕ, _+_, _*_}
 use Prim.Native.String.{String}
 use lib.Dec.{eqb}
-use Rattle.lane.specs.Names.{Unknown, ServiceDescription, Notification, BoardAvailable, RevokeBoardAvailable, MachineReady, RevokeMachineReady, StartTransport, StopTransport, TransportFinished, CheckAlive}
+use Rattle.lane.specs.Names.{Unknown, ServiceDescription, Notification, BoardAvailable, RevokeBoardAvailable, MachineReady, RevokeMachineReady, StartTransport, StopTransport, TransportFinished, CheckAlive, BoardForecast}
 use Rattle.grammar.specs.Bytes.{Bytes, text, same}
 
 -- what a value must be
@@ -60,15 +60,10 @@ entry k n l = record { kind = k; name = text n; rows = l }
 abbrev transferred : List Row
 transferred = "TransferState" is whole 1 3 ∷ "BoardId" is guid ∷ []
 
-unfoldable pub table : List Entry
-table =
-    entry ServiceDescription "ServiceDescription"
-    ("MachineId" is words 80 ∷ "LaneId" is whole 1 65535 ∷ "Version" is version ∷ "SupportedFeatures" is features ∷ [])
-    ∷ entry Notification "Notification" ("NotificationCode" is whole 1 65535 ∷ "Severity" is whole 1 4 ∷ "Description" is words 254 ∷ [])
-    ∷ entry BoardAvailable "BoardAvailable"
-    ("BoardId" is guid
-    ∷ "BoardIdCreatedBy" is someWords 80
-    ∷ "FailedBoard" is whole 0 2
+-- what a BoardAvailable and a BoardForecast say of the board, behind its id and who gave it
+abbrev boardRows : List Row
+boardRows =
+    "FailedBoard" is whole 0 2
     ∷ "ProductTypeId" opt words 254
     ∷ "FlippedBoard" is whole 0 2
     ∷ "TopBarcode" opt words 254
@@ -81,14 +76,22 @@ table =
     ∷ "BottomClearanceHeight" opt positive
     ∷ "Weight" opt positive
     ∷ "WorkOrderId" opt words 80
-    ∷ [])
+    ∷ []
+
+unfoldable pub table : List Entry
+table =
+    entry ServiceDescription "ServiceDescription"
+    ("MachineId" is words 80 ∷ "LaneId" is whole 1 65535 ∷ "Version" is version ∷ "SupportedFeatures" is features ∷ [])
+    ∷ entry Notification "Notification" ("NotificationCode" is whole 1 65535 ∷ "Severity" is whole 1 4 ∷ "Description" is words 254 ∷ [])
+    ∷ entry BoardAvailable "BoardAvailable" ("BoardId" is guid ∷ "BoardIdCreatedBy" is someWords 80 ∷ boardRows)
     ∷ entry RevokeBoardAvailable "RevokeBoardAvailable" []
-    ∷ entry MachineReady "MachineReady" ("FailedBoard" is whole 0 2 ∷ [])
+    ∷ entry MachineReady "MachineReady" ("FailedBoard" is whole 0 2 ∷ "ForecastId" opt words 80 ∷ [])
     ∷ entry RevokeMachineReady "RevokeMachineReady" []
     ∷ entry StartTransport "StartTransport" ("BoardId" is guid ∷ "ConveyorSpeed" opt positive ∷ [])
     ∷ entry StopTransport "StopTransport" transferred
     ∷ entry TransportFinished "TransportFinished" transferred
     ∷ entry CheckAlive "CheckAlive" ("Type" opt whole 1 2 ∷ "Id" opt words 80 ∷ [])
+    ∷ entry BoardForecast "BoardForecast" ("ForecastId" opt words 80 ∷ "TimeUntilAvailable" opt positive ∷ "BoardId" opt guid ∷ "BoardIdCreatedBy" opt words 80 ∷ boardRows)
     ∷ []
 
 -- "The root's child names the message; a name not in the attribute table is kind 0."

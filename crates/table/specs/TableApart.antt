@@ -1,4 +1,4 @@
--- The attribute table a second time: the lines of document 01 as they are printed there, and how they are read. `table` is what they say.
+-- The attribute table a second time: its lines as they are printed, in document 01 and for order 3, and how they are read. `table` is what they say.
 use mathlib.Core.Path.{_≡_, refl, ap, _∙_}
 use mathlib.Core.List.{List, [], _∷_, _++_}
 use mathlib.Core.Bool.{Bool, true, false, _&&_, _||_, not, cond}
@@ -22,10 +22,11 @@ printed =
     ∷ "2 Notification | NotificationCode 1..65535; Severity 1..4; Description text 254"
     ∷ "3 BoardAvailable | BoardId GUID; BoardIdCreatedBy non-empty text 80; FailedBoard 0..2; ProductTypeId text 254 opt; FlippedBoard 0..2; TopBarcode, BottomBarcode text 254 opt; Length, Width, Thickness, ConveyorSpeed, TopClearanceHeight, BottomClearanceHeight, Weight positive opt; WorkOrderId text 80 opt"
     ∷ "4 RevokeBoardAvailable, 6 RevokeMachineReady | none"
-    ∷ "5 MachineReady | FailedBoard 0..2"
+    ∷ "5 MachineReady | FailedBoard 0..2; ForecastId text 80 opt"
     ∷ "7 StartTransport | BoardId GUID; ConveyorSpeed positive opt"
     ∷ "8 StopTransport, 9 TransportFinished | TransferState 1..3; BoardId GUID"
     ∷ "10 CheckAlive | Type 1..2 opt; Id text 80 opt"
+    ∷ "11 BoardForecast | ForecastId text 80 opt; TimeUntilAvailable positive opt; BoardId GUID opt; BoardIdCreatedBy text 80 opt; FailedBoard 0..2; ProductTypeId text 254 opt; FlippedBoard 0..2; TopBarcode, BottomBarcode text 254 opt; Length, Width, Thickness, ConveyorSpeed, TopClearanceHeight, BottomClearanceHeight, Weight positive opt; WorkOrderId text 80 opt"
     ∷ []
 
 -- the parts between the bytes c: one more byte, which is c or not, before the parts

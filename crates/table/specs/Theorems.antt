@@ -157,8 +157,8 @@ kinds-count l h k = agree (isKindIn l k) (leb 1 k && leb k (length l)) to from
     from : leb 1 k && leb k (length l) ≡ true → isKindIn l k ≡ true
     from e = let (a, b) = both (leb 1 k) (leb k (length l)) e in let y = leb-true k (length l) b in counting 1 l k h (leb-true 1 k a) (omega arith)
 
--- so the kinds of document 01 are the numbers from 1 to 10
-pub kinds-are : (k : ℕ) → isKind k ≡ within 1 10 k
+-- so the kinds are the numbers from 1 on, as many as there are entries
+pub kinds-are : (k : ℕ) → isKind k ≡ within 1 (length table) k
 unfolding table
 kinds-are k = kinds-count table refl k
 

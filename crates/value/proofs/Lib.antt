@@ -5,5 +5,6 @@ pub mod TestLaws
 pub mod PartLaws
 pub mod TextLaws
 pub mod NumberLaws
+pub mod AskedLaws
 pub mod Theorems
 pub mod IdLaws

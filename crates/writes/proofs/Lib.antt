@@ -4,6 +4,5 @@ pub mod WorthLaws
 pub mod PutLaws
 pub mod ChildLaws
 pub mod MessageLaws
-pub mod LaidLaws
 pub mod KindLaws
 pub mod Theorems

@@ -9,7 +9,7 @@ use Rattle.grammar.specs.Message.{Message as IsMessage}
 use Rattle.table.specs.Table.{isKind, rowsOf}
 use Rattle.table.specs.Says.{saidOf}
 use Rattle.message.specs.Cells.{fieldsFrom}
-use Rattle.message.specs.declared.kinds.Message.{Message}
+use Rattle.message.specs.declared.cells.Message.{Message}
 use Rattle.meant.specs.Meant.{meantOf, refusalOf}
 use Rattle.meant.proofs.MessageLaws.{refusal-table, message-back}
 use Rattle.writes.specs.Rows.{refusalFrom, writtenFrom}

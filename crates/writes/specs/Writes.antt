@@ -7,7 +7,7 @@ use lib.ListN.{length, drop}
 use lib.Dec.{eqb, leb}
 use Rattle.grammar.specs.Bytes.{Bytes}
 use Rattle.table.specs.Table.{isKind, rowsOf}
-use Rattle.message.specs.declared.kinds.Message.{Message}
+use Rattle.message.specs.declared.cells.Message.{Message}
 use Rattle.meant.specs.Meant.{refusalOf}
 use Rattle.meant.specs.Written.{writtenOf}
 use Rattle.writes.specs.Rows.{refusalFrom, writtenFrom}

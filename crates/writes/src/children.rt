@@ -12,12 +12,12 @@ ghost use Rattle.writes.specs.Rows.{flagged, featuresIn, childBytes, chi
 use crate::marks::put_empty;
 use crate::marks::put_end;
 use crate::marks::put_start;
+use cells::cell;
 use printing::put_byte;
 use rows::data::Range;
 use rows::data::Row;
 use rows::data::name_at;
 use rows::data::row_at;
-use structs::cell;
 
 // An empty tag of the name on that line, if it is there.
 fn put_flag(out: &mut [u8], at: usize, names: &[u8], there: u64, line: usize, len: usize) -> usize

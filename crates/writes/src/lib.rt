@@ -1,5 +1,4 @@
-// Messages to be sent: refused and written by the rows of their kind. A message is its kind, its cells, its BoardId and its texts; the structs of
-// the kinds are laid into cells first.
+// Messages to be sent: refused and written by the rows of their kind.
 mod children;
 mod marks;
 mod messages;

@@ -5,6 +5,7 @@ ghost use Rattle.printing.specs.Put.{Countable, Wrote};
 ghost use Rattle.rows.specs.Coding.{numbers as coding, names as letters, rowOf, rowsFrom, ROWS as MANY, LINES, WIDTH, MOST};
 ghost use Rattle.writes.specs.Rows.{formValue, rowBytes, attributesFrom};
 use crate::texts::part;
+use cells::cell;
 use printing::put;
 use printing::put_byte;
 use printing::put_digits;
@@ -14,7 +15,6 @@ use rows::data::name_at;
 use rows::data::row_at;
 use spelling::put_decimal;
 use spelling::put_escaped;
-use structs::cell;
 use value::Span;
 
 // What stands between the quotes.

@@ -9,10 +9,10 @@ ghost use Rattle.table.specs.Says.{without, refusalIn};
 ghost use Rattle.rows.specs.Coding.{numbers as coding};
 ghost use Rattle.writes.specs.Rows.{rowRefusal, refusalFrom};
 use crate::texts;
+use cells::cell;
 use rows::data::Row;
 use rows::data::row_at;
 use rows::data::rows_of;
-use structs::cell;
 use value::Span;
 
 // The largest positive number, in millionths: seven digits before the point and six behind it.

@@ -1,15 +1,13 @@
-// Messages as structs: laid into cells, and refused or written as these.
+// Messages, refused or written by their cells.
 ghost use mathlib.Core.Path.{_≡_};
-ghost use Rattle.message.specs.Cells.{messageBy};
 ghost use Rattle.meant.specs.Meant.{refusalOf};
 ghost use Rattle.writes.specs.Writes.{Writes};
+ghost use Rattle.message.specs.Messages.{messageBy};
 use crate::messages::Written;
 use crate::messages::write_cells;
 use crate::refusing::refusal_of_rows;
-use message::kinds::Message;
+use message::Message;
 use rows::data::NUMBERS;
-use structs::id_of;
-use structs::lay;
 
 /// 4, 5 or 6 by the first row of the kind that refuses these cells, or 0.
 pub fn refusal_of_cells(kind: u8, cells: &[u64], id: &[u8], texts: &[u8]) -> u8
@@ -23,11 +21,9 @@ pub fn refusal_of_cells(kind: u8, cells: &[u64], id: &[u8], texts: &[u8]) -> u8
 pub fn refusal_of(m: Message, texts: &[u8]) -> u8
     ensures { λ r. ⌜ r ≡ refusalOf m (now (texts .entry)) ⌝ }
 {
-    let mut cells = [0u64; 72];
-    lay(m, &mut cells);
-    let id = id_of(m);
-    let kind = m.kind;
-    refusal_of_cells(kind, &cells, &id, texts)
+    let cells = m.cells;
+    let id = m.id;
+    refusal_of_cells(m.kind, &cells, &id, texts)
 }
 
 /// Writes a message, whose texts are parts of `texts`, first into the buffer. 4, 5, 6 as the first row in table order refuses it; 8 for a kind
@@ -35,9 +31,7 @@ pub fn refusal_of(m: Message, texts: &[u8]) -> u8
 pub fn write(m: Message, texts: &[u8], out: &mut [u8]) -> Written
     ensures { λ r. ⌜ Writes m (now (texts .entry)) (now (out .entry)) (now (out .exit)) r ⌝ }
 {
-    let mut cells = [0u64; 72];
-    lay(m, &mut cells);
-    let id = id_of(m);
-    let kind = m.kind;
-    write_cells(kind, &cells, &id, texts, out)
+    let cells = m.cells;
+    let id = m.id;
+    write_cells(m.kind, &cells, &id, texts, out)
 }

@@ -6,7 +6,6 @@ use mathlib.Core.Logic.{_⊎_, inl, inr, ⊎-elim}
 use Prim.Native.Nat.{ℕ, _+_, _≤_, _<_}
 use native.Mathlib.Omega.{arith}
 use lib.ListN.{length, take, drop, length-append, length-drop}
-use lib.Seq.{take-append-seam}
 use lib.Dec.{leb}
 use denote.Ref.{RefT, now, ptr}
 use borrow.Author.Tests.{le-leb, leb-true, leb-false}
@@ -17,7 +16,8 @@ use Rattle.value.specs.AsRead.{raw-as-read-iff}
 use Rattle.value.specs.Asking.{Told, refused, paper, Answer, no-value, stands, no-room, decoded, TextSays, absent, outside, there}
 use Rattle.value.specs.Asked.{refusalOf}
 use Rattle.value.specs.Only.{paper-injective}
-use Rattle.value.specs.Parts.{placed, partOr, partAt, Lies}
+use Rattle.value.specs.Parts.{partAt, Lies}
+use Rattle.value.proofs.AskedLaws.{in-message, in-scratch}
 use Rattle.value.specs.declared.text.Span.{Span}
 use Rattle.value.specs.declared.text.Words.{Words}
 use Rattle.value.specs.declared.text.Words.the-variants.{Present}
@@ -96,18 +96,6 @@ module _ {s : Bytes} {w : Words} {room scratch : Bytes} (at : TextAt) {k : ℕ} 
 
   -- 0: the part that was handed out is the text
   module _ (a b : ℕ × ℕ) {part : RefT (List ℕ)} (lies : Lies (partAt a s b scratch at) part) where
-    in-message : (p : Span) → at ≡ InMessage p → p .start + p .len ≤ length s → now part ≡ take (p .len) (drop (p .start) s)
-    unfolding partAt partOr
-    in-message p e l = lies .bytes ∙ ap (λ (t : TextAt). partAt a s b scratch t .bytes) e ∙ rw (le-leb (p .start + p .len) (length s) l) refl
-
-    in-scratch : (v : Bytes) → at ≡ InScratch (length v) → scratch ≡ v ++ drop (length v) room → now part ≡ v
-    unfolding partAt partOr
-    in-scratch v e g =
-        let long = ap length g ∙ length-append v (drop (length v) room) in
-        lies .bytes
-        ∙ ap (λ (t : TextAt). partAt a s b scratch t .bytes) e
-        ∙ rw (le-leb (0 + length v) (length scratch) (omega arith)) (ap (take (length v)) g ∙ take-append-seam v (drop (length v) room))
-
     with-text : {old new : Bytes} {r : Written} (p : Span) → w ≡ Present p → p .start + p .len ≤ length s → (v : Bytes) → Text (take (p .len) (drop (p .start) s)) v → now part ≡ v → Writes (sameOf (length (now part))) (now part) old new r → Replies s w old new r
     with-text {old} {new} {r} p e l v t q x = by (subst (λ (y : Bytes). Writes (sameOf (length y)) y old new r) q x) (leb (length v) 80) refl
       where
@@ -120,9 +108,9 @@ module _ {s : Bytes} {w : Words} {room scratch : Bytes} (at : TextAt) {k : ℕ} 
       where
         of : (p : Span) → w ≡ Present p → p .start + p .len ≤ length s → Answer (take (p .len) (drop (p .start) s)) p room scratch (paper at) → Replies s w old new r
         of p e l (no-value n f g) = no-number 6 f h (λ z. omega arith)
-        of p e l (stands v t y f g) = with-text p e l v t (in-message p (paper-injective at (InMessage p) f) l ∙ sym (raw-as-read-iff t .0 y)) x
+        of p e l (stands v t y f g) = with-text p e l v t (in-message s scratch at a b lies p (paper-injective at (InMessage p) f) l ∙ sym (raw-as-read-iff t .0 y)) x
         of p e l (no-room v t y m f g) = no-number 7 f h (λ z. omega arith)
-        of p e l (decoded v t y m f g) = with-text p e l v t (in-scratch v (paper-injective at (InScratch (length v)) f) g) x
+        of p e l (decoded v t y m f g) = with-text p e l v t (in-scratch s scratch at a b lies v room (paper-injective at (InScratch (length v)) f) g) x
 
         go : TextSays s w room scratch (paper at) → Replies s w old new r
         go (absent e f g) = no-number 4 f h (λ z. omega arith)

@@ -18,7 +18,6 @@ use Rattle.value.specs.declared.text.Words.the-variants.{Absent as NoWords, Pre
 use Rattle.spelling.specs.Decided.{isText}
 use Rattle.table.specs.Table.{table, isKind, rowsOf}
 use Rattle.table.specs.Says.{Result, absent, present, aText, anInt, saidOf}
-use Rattle.message.specs.Fields.{messageFrom, fieldsOf}
 use Rattle.meant.specs.Meant.{meantBy, meantOf}
 use Rattle.meant.specs.Written.{writtenOf}
 use Rattle.meant.specs.Notices.{notice}
@@ -28,6 +27,8 @@ use Rattle.written_back.specs.First.{First}
 use Rattle.written_back.specs.Replies.{sameOf, bareOf, Reply, same-id, no-id, Replies, replied, too-long, outside, no-text, SameId}
 use Rattle.written_back.proofs.ReadLaws.{read-is-text}
 use Rattle.written_back.proofs.ReplyLaws.{bare-sendable, same-sendable}
+use Rattle.message.specs.Cells.{cellsOf, fieldsFrom, fieldBy, wordsBy, wholeBy, measureBy, guidBy, featuresBy}
+use Rattle.message.specs.Messages.{messageFrom, fieldsOf, withZeros}
 
 -- bytes written first are written in one way
 pub first-only : {b old new new′ : Bytes} {r r′ : Written} → First b old new r → First b old new′ r′ → (r ≡ r′) × (new ≡ new′)
@@ -97,11 +98,11 @@ whole-text : (v : Bytes) → take (length v) (drop 0 v) ≡ v
 whole-text v = take-all (length v) v (omega arith)
 
 same-meant : (v : Bytes) → isText v ≡ true → length v ≤ 80 → meantOf (rowsOf 10) (fieldsOf (sameOf (length v))) v ≡ present (anInt 2) ∷ present (aText v) ∷ []
-unfolding sameOf messageFrom fieldsOf table meantOf meantBy within
+unfolding sameOf messageFrom fieldsOf table meantOf meantBy within withZeros cellsOf fieldsFrom fieldBy wordsBy wholeBy measureBy guidBy featuresBy
 same-meant v t h = rw (whole-text v, le-leb (length v) 80 h, t, le-leb (0 + length v) (length v) (omega arith)) refl
 
 bare-meant : meantOf (rowsOf 10) (fieldsOf bareOf) [] ≡ present (anInt 2) ∷ absent ∷ []
-unfolding bareOf messageFrom fieldsOf table meantOf meantBy within
+unfolding bareOf messageFrom fieldsOf table meantOf meantBy within withZeros cellsOf fieldsFrom fieldBy wordsBy wholeBy measureBy guidBy featuresBy
 bare-meant = refl
 
 Back : Bytes → List Result → Type 0

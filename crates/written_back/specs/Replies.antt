@@ -11,9 +11,10 @@ use Rattle.value.specs.declared.text.Span.{Span}
 use Rattle.value.specs.declared.text.Words.{Words}
 use Rattle.value.specs.declared.text.Words.the-variants.{Absent as NoWords, Present as IsWords}
 use Rattle.table.specs.Says.{Result, absent, present, aText, anInt}
-use Rattle.message.specs.Fields.{aWords, aWhole, messageFrom}
+use Rattle.message.specs.Fields.{aWords, aWhole}
+use Rattle.message.specs.Messages.{messageFrom}
 use Rattle.message.specs.declared.values.Whole.the-variants.{Present as IsWhole}
-use Rattle.message.specs.declared.kinds.Message.{Message}
+use Rattle.message.specs.declared.cells.Message.{Message}
 use Rattle.meant.specs.Notices.{description}
 use Rattle.meant.specs.Written.{writtenOf}
 use Rattle.writes.specs.Writes.{refusedBy}

@@ -8,10 +8,10 @@ use Rattle.cases.proofs.asks.in_order.Statement.{statement}
 use Rattle.cases.proofs.asks.in_order.Tie as tie
 
 abbrev Inv-loop : tie.InvT-loop
-Inv-loop id range numbers i₀ i = (i ≤ 24) × (length numbers ≡ 73)
+Inv-loop id range cells i₀ i = (i ≤ 24) × (length cells ≡ 72)
 
 abbrev μ-loop : tie.MeasureT-loop
-μ-loop id range numbers i₀ i = 24 - i
+μ-loop id range cells i₀ i = 24 - i
 
 loop-holds : tie.Need-loop-holds Inv-loop μ-loop
 loop-holds c = (omega arith, search needs)
@@ -49,9 +49,6 @@ array-read-value-2 c = search needs
 mul-value-5 : tie.Need-mul-value-5 Inv-loop μ-loop
 mul-value-5 c = search needs
 
-add-value-3 : tie.Need-add-value-3 Inv-loop μ-loop
-add-value-3 c = search needs
-
 mul-value-6 : tie.Need-mul-value-6 Inv-loop μ-loop
 mul-value-6 c = search needs
 
@@ -83,15 +80,14 @@ in-order-spec =
     returns
     form-requires
     mul-value
-    add-value
     mul-value-2
     array-read-value
     mul-value-3
-    add-value-2
+    add-value
     mul-value-4
     array-read-value-2
     mul-value-5
-    add-value-3
+    add-value-2
     mul-value-6
     array-read-value-3
     value-requires

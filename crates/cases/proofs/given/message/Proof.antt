@@ -67,14 +67,8 @@ loop-again c = (omega arith, search needs)
 low-requires : tie.Need-low-requires Inv-loop μ-loop
 low-requires c κs = search needs
 
-slice-aggregate-message-of : tie.Need-slice-aggregate-message-of Inv-loop μ-loop
-slice-aggregate-message-of c = search needs
-
 id-requires : tie.Need-id-requires Inv-loop μ-loop
 id-requires c κs = search needs
-
-message-of-requires : tie.Need-message-of-requires Inv-loop μ-loop
-message-of-requires c κs = search needs
 
 returns : tie.Need-returns Inv-loop μ-loop
 returns c = search needs
@@ -102,8 +96,6 @@ message-spec =
     add-i
     loop-less
     loop-again
-    low-requires
-    slice-aggregate-message-of
     id-requires
-    message-of-requires
+    low-requires
     returns)

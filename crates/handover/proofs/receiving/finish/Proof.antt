@@ -9,7 +9,7 @@ use Rattle.handover.proofs.receiving.finish.Lts as lts
 use Rattle.handover.proofs.receiving.no_room.Reads as no-room-reads
 use Rattle.handover.proofs.receiving.refused.Reads as refused-reads
 use Rattle.handover.proofs.receiving.told.Reads as told-reads
-use Rattle.structs.proofs.clear.Reads as clear-reads
+use Rattle.cells.proofs.clear.Reads as clear-reads
 
 clear-requires : tie.Need-clear-requires
 clear-requires c κs = search needs

@@ -1,12 +1,10 @@
--- The struct that the cells are.
-use Rattle.handover.proofs.ReceiveLaws.{received-as}
+-- The message that the cells are.
 use borrow.Author.Needs.{needs}
 use Rattle.handover.proofs.receiving.receive.Statement.{statement}
 use Rattle.handover.proofs.receiving.receive.Tie as tie
 use Rattle.handover.proofs.receiving.receive.Reads as reads
 use Rattle.handover.proofs.receiving.receive.Lts as lts
 use Rattle.handover.proofs.receiving.receive_into.Reads as receive-into-reads
-use Rattle.structs.proofs.message_of.Reads as message-of-reads
 
 slice-aggregate-receive-into : tie.Need-slice-aggregate-receive-into
 slice-aggregate-receive-into c = search needs
@@ -14,17 +12,11 @@ slice-aggregate-receive-into c = search needs
 receive-into-requires : tie.Need-receive-into-requires
 receive-into-requires c κs = search needs
 
-slice-aggregate-message-of : tie.Need-slice-aggregate-message-of
-slice-aggregate-message-of c = search needs
-
-message-of-requires : tie.Need-message-of-requires
-message-of-requires c κs = search needs
-
 same-length : tie.Need-same-length
 same-length c = search needs
 
 returns : tie.Need-returns
-returns c = received-as (c .before .before .before .before .before .before .before .receive-into .ensures) (c .message-of .ensures)
+returns c = c .before .before .before .before .before .receive-into .ensures
 
 pub receive-spec : {M : Type 1} → statement M
 receive-spec =
@@ -32,7 +24,5 @@ receive-spec =
     (tie.spec
     slice-aggregate-receive-into
     receive-into-requires
-    slice-aggregate-message-of
-    message-of-requires
     same-length
     returns)

@@ -1,25 +1,25 @@
 -- By the chart, then by what writing answers.
-use Rattle.writes.proofs.KindLaws.{cells-write}
 use Rattle.handover.proofs.SendLaws.{moved-by, is-not-sent, is-refused, is-sent}
 use borrow.Author.Needs.{needs}
 use Rattle.handover.proofs.sending.send_from.Statement.{statement}
 use Rattle.handover.proofs.sending.send_from.Tie as tie
 use Rattle.handover.proofs.sending.send_from.Reads as reads
 use Rattle.handover.proofs.sending.send_from.Lts as lts
-use Rattle.handover.proofs.ids.named_id.Reads as named-id-reads
+use Rattle.cells.proofs.named_id.Reads as named-id-reads
 use Rattle.handover.proofs.sending.kept.Reads as kept-reads
 use Rattle.handover.proofs.sending.may_not.Reads as may-not-reads
+use Rattle.events.proofs.sent_event.Reads as sent-event-reads
 use Rattle.lane.proofs.Lane.sent.Reads as sent-reads
-use Rattle.writes.proofs.write_cells.Reads as write-cells-reads
+use Rattle.handover.proofs.sending.put.Reads as put-reads
 
 named-id-requires : tie.Need-named-id-requires
 named-id-requires c κs = search needs
 
+sent-event-requires : tie.Need-sent-event-requires
+sent-event-requires c κs = search needs
+
 sent-requires : tie.Need-sent-requires
 sent-requires c κs = search needs
-
-slice-aggregate-may-not : tie.Need-slice-aggregate-may-not
-slice-aggregate-may-not c = search needs
 
 may-not-requires : tie.Need-may-not-requires
 may-not-requires c κs = search needs
@@ -28,13 +28,10 @@ kept-requires : tie.Need-kept-requires
 kept-requires c κs = search needs
 
 returns : tie.Need-returns
-returns c = is-not-sent (c .before .before .before .before .before .before .before .before .before .before .args .lane) _ (c .before .before .before .before .before .before .before .before .before .before .args .texts .now) (moved-by (c .before .before .before .before .before .before .before .before .before .before .args .lane) (c .before .before .before .before .before .before .before .before .before .before .args .kind) (c .before .before .before .before .before .before .before .before .before .before .args .cells .now) _ (c .before .before .before .before .before .before .named-id .ensures) (c .before .before .before .before .before .sent .ensures)) (c .before .before .before .if1 .taken) (c .before .may-not .ensures) (c .kept .ensures)
+returns c = is-not-sent (c .before .before .before .before .before .before .before .before .before .before .args .lane) _ (c .before .before .before .before .before .before .before .before .before .before .args .texts .now) (moved-by (c .before .before .before .before .before .before .before .before .before .before .args .lane) (c .before .before .before .before .before .before .before .before .before .before .args .kind) (c .before .before .before .before .before .before .before .before .before .before .args .cells .now) (c .before .before .before .before .before .before .before .before .before .before .args .id) (c .before .before .before .before .before .before .before .before .before .before .args .texts .now) (c .before .before .before .before .before .before .named-id .ensures) (c .before .before .before .before .before .sent-event .ensures) (c .before .before .before .before .sent .ensures)) (c .before .before .if1 .taken) (c .before .may-not .ensures) (c .kept .ensures)
 
-slice-aggregate-write-cells : tie.Need-slice-aggregate-write-cells
-slice-aggregate-write-cells c = search needs
-
-write-cells-requires : tie.Need-write-cells-requires
-write-cells-requires c κs = search needs
+put-requires : tie.Need-put-requires
+put-requires c κs = search needs
 
 kept-requires-2 : tie.Need-kept-requires-2
 kept-requires-2 c κs = search needs
@@ -43,26 +40,25 @@ same-length : tie.Need-same-length
 same-length c = search needs
 
 returns-2 : tie.Need-returns-2
-returns-2 c = is-refused (c .before .before .before .before .before .before .before .before .before .before .before .before .before .before .before .args .lane) _ (c .before .before .before .before .before .before .before .before .before .before .before .before .before .before .before .args .texts .now) (moved-by (c .before .before .before .before .before .before .before .before .before .before .before .before .before .before .before .args .lane) (c .before .before .before .before .before .before .before .before .before .before .before .before .before .before .before .args .kind) (c .before .before .before .before .before .before .before .before .before .before .before .before .before .before .before .args .cells .now) _ (c .before .before .before .before .before .before .before .before .before .before .before .named-id .ensures) (c .before .before .before .before .before .before .before .before .before .before .sent .ensures)) (c .before .before .before .before .before .before .before .before .if1 .left) (cells-write (c .before .before .before .before .before .before .before .before .before .before .before .before .before .before .before .args .kind) (c .before .before .before .before .before .before .before .before .before .before .before .before .before .before .before .args .cells .now) _ (c .before .before .before .before .before .before .before .before .before .before .before .before .before .before .before .args .texts .now) (c .before .before .before .before .before .write-cells .ensures)) (c .before .if2 .taken) (c .kept2 .ensures)
+returns-2 c = is-refused (c .before .before .before .before .before .before .before .before .before .before .before .before .before .before .before .args .lane) _ (c .before .before .before .before .before .before .before .before .before .before .before .before .before .before .before .args .texts .now) (moved-by (c .before .before .before .before .before .before .before .before .before .before .before .before .before .before .before .args .lane) (c .before .before .before .before .before .before .before .before .before .before .before .before .before .before .before .args .kind) (c .before .before .before .before .before .before .before .before .before .before .before .before .before .before .before .args .cells .now) (c .before .before .before .before .before .before .before .before .before .before .before .before .before .before .before .args .id) (c .before .before .before .before .before .before .before .before .before .before .before .before .before .before .before .args .texts .now) (c .before .before .before .before .before .before .before .before .before .before .before .named-id .ensures) (c .before .before .before .before .before .before .before .before .before .before .sent-event .ensures) (c .before .before .before .before .before .before .before .before .before .sent .ensures)) (c .before .before .before .before .before .before .before .if1 .left) (c .before .before .before .before .before .put .ensures) (c .before .if2 .taken) (c .kept2 .ensures)
 
 same-length-2 : tie.Need-same-length-2
 same-length-2 c = search needs
 
 returns-3 : tie.Need-returns-3
-returns-3 c = is-sent (c .before .before .before .before .before .before .before .before .before .before .before .before .before .before .before .args .lane) _ (c .before .before .before .before .before .before .before .before .before .before .before .before .before .before .before .args .texts .now) (moved-by (c .before .before .before .before .before .before .before .before .before .before .before .before .before .before .before .args .lane) (c .before .before .before .before .before .before .before .before .before .before .before .before .before .before .before .args .kind) (c .before .before .before .before .before .before .before .before .before .before .before .before .before .before .before .args .cells .now) _ (c .before .before .before .before .before .before .before .before .before .before .before .named-id .ensures) (c .before .before .before .before .before .before .before .before .before .before .sent .ensures)) (c .before .before .before .before .before .before .before .before .if1 .left) (cells-write (c .before .before .before .before .before .before .before .before .before .before .before .before .before .before .before .args .kind) (c .before .before .before .before .before .before .before .before .before .before .before .before .before .before .before .args .cells .now) _ (c .before .before .before .before .before .before .before .before .before .before .before .before .before .before .before .args .texts .now) (c .before .before .before .before .before .write-cells .ensures)) (c .before .if2 .left)
+returns-3 c = is-sent (c .before .before .before .before .before .before .before .before .before .before .before .before .before .before .before .args .lane) _ (c .before .before .before .before .before .before .before .before .before .before .before .before .before .before .before .args .texts .now) (moved-by (c .before .before .before .before .before .before .before .before .before .before .before .before .before .before .before .args .lane) (c .before .before .before .before .before .before .before .before .before .before .before .before .before .before .before .args .kind) (c .before .before .before .before .before .before .before .before .before .before .before .before .before .before .before .args .cells .now) (c .before .before .before .before .before .before .before .before .before .before .before .before .before .before .before .args .id) (c .before .before .before .before .before .before .before .before .before .before .before .before .before .before .before .args .texts .now) (c .before .before .before .before .before .before .before .before .before .before .before .named-id .ensures) (c .before .before .before .before .before .before .before .before .before .before .sent-event .ensures) (c .before .before .before .before .before .before .before .before .before .sent .ensures)) (c .before .before .before .before .before .before .before .if1 .left) (c .before .before .before .before .before .put .ensures) (c .before .if2 .left)
 
 pub send-from-spec : {M : Type 1} → statement M
 send-from-spec =
     tie.close
     (tie.spec
     named-id-requires
+    sent-event-requires
     sent-requires
-    slice-aggregate-may-not
     may-not-requires
     kept-requires
     returns
-    slice-aggregate-write-cells
-    write-cells-requires
+    put-requires
     kept-requires-2
     same-length
     returns-2

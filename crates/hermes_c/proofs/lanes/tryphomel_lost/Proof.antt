@@ -8,7 +8,7 @@ lost-requires : tie.Need-lost-requires
 lost-requires c κs = search needs
 
 returns : tie.Need-returns
-returns c = lost-parts (c .before .before .lost .ensures)
+returns c = lost-parts (c .before .before .before .before .lost .ensures)
 
 pub tryphomel-lost-spec : {M : Type 1} → statement M
 tryphomel-lost-spec = tie.close (tie.spec lost-requires returns)

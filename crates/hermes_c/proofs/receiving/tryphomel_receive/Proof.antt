@@ -32,7 +32,7 @@ same-length : tie.Need-same-length
 same-length c = search needs
 
 returns : tie.Need-returns
-returns c = receives-as (c .before .before .before .before .before .before .before .before .receive-into .ensures) (ap (λ (l : List ℕ). c .before .before .before .before .before .before .before .before .receive-into .result .kind ∷ l) (append-nil _))
+returns c = receives-as (c .before .before .before .before .before .before .before .before .before .before .receive-into .ensures) (ap (λ (l : List ℕ). c .before .before .before .before .before .before .before .before .before .before .receive-into .result .kind ∷ l) (append-nil _))
 
 pub tryphomel-receive-spec : {M : Type 1} → statement M
 tryphomel-receive-spec =

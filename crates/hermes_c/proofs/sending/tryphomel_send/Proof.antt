@@ -1,14 +1,13 @@
 -- The message that the numbers are.
 use mathlib.Core.Path.{refl}
-use Rattle.structs.proofs.NumberLaws.{in-numbers}
-use Rattle.hermes_c.proofs.SendLaws.{sends-as}
+use Rattle.hermes_c.proofs.SendLaws.{in-numbers, sends-as}
 use borrow.Author.Needs.{needs}
 use Rattle.hermes_c.proofs.sending.tryphomel_send.Statement.{statement}
 use Rattle.hermes_c.proofs.sending.tryphomel_send.Tie as tie
 use Rattle.hermes_c.proofs.sending.tryphomel_send.Reads as reads
 use Rattle.hermes_c.proofs.sending.tryphomel_send.Lts as lts
 use Rattle.handover.proofs.send_from.Reads as send-from-reads
-use Rattle.structs.proofs.kind_in.Reads as kind-in-reads
+use Rattle.cells.proofs.kind_in.Reads as kind-in-reads
 
 kind-in-requires : tie.Need-kind-in-requires
 kind-in-requires c κs = search needs
@@ -29,7 +28,7 @@ same-length : tie.Need-same-length
 same-length c = search needs
 
 returns : tie.Need-returns
-returns c = sends-as (in-numbers _ _ (c .before .before .before .before .before .before .before .before .before .before .kind-in .ensures .1) (c .before .before .before .before .before .before .before .before .before .before .kind-in .ensures .0) refl) (c .before .before .before .before .before .send-from .ensures)
+returns c = sends-as (in-numbers _ _ (c .before .before .before .before .before .before .before .before .before .before .before .before .kind-in .ensures .1) (c .before .before .before .before .before .before .before .before .before .before .before .before .kind-in .ensures .0)) (c .before .before .before .before .before .before .before .send-from .ensures)
 
 pub tryphomel-send-spec : {M : Type 1} → statement M
 tryphomel-send-spec =

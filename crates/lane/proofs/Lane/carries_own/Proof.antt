@@ -4,17 +4,39 @@ use borrow.Author.Needs.{needs}
 use Rattle.lane.proofs.Lane.carries_own.Statement.{statement}
 use Rattle.lane.proofs.Lane.carries_own.Tie as tie
 
-same-id-requires : tie.Need-same-id-requires
-same-id-requires c κs = search needs
+slice-aggregate-same-bytes : tie.Need-slice-aggregate-same-bytes
+slice-aggregate-same-bytes c = search needs
+
+slice-aggregate-same-bytes-2 : tie.Need-slice-aggregate-same-bytes-2
+slice-aggregate-same-bytes-2 c = search needs
+
+same-bytes-requires : tie.Need-same-bytes-requires
+same-bytes-requires c κs = search needs
 
 returns : tie.Need-returns
 returns c = search picks
 
-same-id-requires-2 : tie.Need-same-id-requires-2
-same-id-requires-2 c κs = search needs
+slice-aggregate-same-bytes-3 : tie.Need-slice-aggregate-same-bytes-3
+slice-aggregate-same-bytes-3 c = search needs
+
+slice-aggregate-same-bytes-4 : tie.Need-slice-aggregate-same-bytes-4
+slice-aggregate-same-bytes-4 c = search needs
+
+same-bytes-requires-2 : tie.Need-same-bytes-requires-2
+same-bytes-requires-2 c κs = search needs
 
 returns-2 : tie.Need-returns-2
 returns-2 c = search picks
 
 pub carries-own-spec : {M : Type 1} → statement M
-carries-own-spec = tie.close (tie.spec same-id-requires returns same-id-requires-2 returns-2)
+carries-own-spec =
+    tie.close
+    (tie.spec
+    slice-aggregate-same-bytes
+    slice-aggregate-same-bytes-2
+    same-bytes-requires
+    returns
+    slice-aggregate-same-bytes-3
+    slice-aggregate-same-bytes-4
+    same-bytes-requires-2
+    returns-2)

@@ -1,4 +1,4 @@
--- The struct that the cells are.
+-- The message that the cells are.
 use Rattle.reads.proofs.CheckLaws.{handed}
 use borrow.Author.Needs.{needs}
 use Rattle.reads.proofs.checking.check.Statement.{statement}
@@ -6,7 +6,6 @@ use Rattle.reads.proofs.checking.check.Tie as tie
 use Rattle.reads.proofs.checking.check.Reads as reads
 use Rattle.reads.proofs.checking.check.Lts as lts
 use Rattle.reads.proofs.checking.check_into.Reads as check-into-reads
-use Rattle.structs.proofs.message_of.Reads as message-of-reads
 
 slice-aggregate-check-into : tie.Need-slice-aggregate-check-into
 slice-aggregate-check-into c = search needs
@@ -14,14 +13,8 @@ slice-aggregate-check-into c = search needs
 check-into-requires : tie.Need-check-into-requires
 check-into-requires c κs = search needs
 
-slice-aggregate-message-of : tie.Need-slice-aggregate-message-of
-slice-aggregate-message-of c = search needs
-
-message-of-requires : tie.Need-message-of-requires
-message-of-requires c κs = search needs
-
 returns : tie.Need-returns
-returns c = handed (c .before .before .before .before .check-into .ensures) (c .message-of .ensures)
+returns c = handed (c .before .before .check-into .ensures)
 
 pub check-spec : {M : Type 1} → statement M
 check-spec =
@@ -29,6 +22,4 @@ check-spec =
     (tie.spec
     slice-aggregate-check-into
     check-into-requires
-    slice-aggregate-message-of
-    message-of-requires
     returns)

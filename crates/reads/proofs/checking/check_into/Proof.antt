@@ -10,7 +10,7 @@ use Rattle.reads.proofs.checking.check_into.Lts as lts
 use Rattle.reads.proofs.checking.told.Reads as told-reads
 use Rattle.reads.proofs.ids.take_id.Reads as take-id-reads
 use Rattle.reads.proofs.whole.check_cells.Reads as check-cells-reads
-use Rattle.structs.proofs.clear.Reads as clear-reads
+use Rattle.cells.proofs.clear.Reads as clear-reads
 
 check-cells-requires : tie.Need-check-cells-requires
 check-cells-requires c κs = let n = all-cells (c .before .before .before .pre) in omega arith

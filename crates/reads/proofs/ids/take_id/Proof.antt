@@ -1,13 +1,13 @@
 -- By whether the kind has an id, and whether it is there.
 use native.Mathlib.Omega.{arith}
-use Rattle.reads.proofs.TableLaws.{cell-in}
+use Rattle.message.proofs.GuidLaws.{cell-in}
 use Rattle.reads.proofs.IdLaws.{takes-none, takes-absent, takes-there}
 use borrow.Author.Needs.{needs}
 use Rattle.reads.proofs.ids.take_id.Statement.{statement}
 use Rattle.reads.proofs.ids.take_id.Tie as tie
 use Rattle.reads.proofs.ids.take_id.Reads as reads
 use Rattle.reads.proofs.ids.take_id.Lts as lts
-use Rattle.reads.proofs.cells.put.Reads as put-reads
+use Rattle.reads.proofs.kind_rows.put.Reads as put-reads
 use Rattle.reads.proofs.ids.id_at.Reads as id-at-reads
 use Rattle.rows.proofs.data.id_cell.Reads as id-cell-reads
 

@@ -1,31 +1,25 @@
 -- Absent or present.
-use Rattle.structs.proofs.CellLaws.{no-whole, the-whole}
+use mathlib.Core.Path.{refl}
+use Rattle.cells.proofs.CellLaws.{no-whole, the-whole}
 use borrow.Author.Needs.{needs}
 use Rattle.structs.proofs.making.whole.Statement.{statement}
 use Rattle.structs.proofs.making.whole.Tie as tie
 
-mul-cell : tie.Need-mul-cell
-mul-cell c = search needs
-
-cell-requires : tie.Need-cell-requires
-cell-requires c κs = search needs
-
-mul-cell-2 : tie.Need-mul-cell-2
-mul-cell-2 c = search needs
-
-add-cell : tie.Need-add-cell
-add-cell c = search needs
-
-cell-requires-2 : tie.Need-cell-requires-2
-cell-requires-2 c κs = search needs
-
 returns : tie.Need-returns
-returns c = no-whole (c .before .before .cell .ensures) (c .if1 .taken) _
+returns c = no-whole refl (c .if1 .taken) _
 
 returns-2 : tie.Need-returns-2
-returns-2 c = the-whole (c .before .before .cell .ensures) (c .if1 .left) (c .before .cell2 .ensures)
+returns-2 c = the-whole refl (c .if1 .left) refl
 
 pub whole-spec : {M : Type 1} → statement M
 whole-spec =
     tie.close
-    (tie.spec mul-cell cell-requires mul-cell-2 add-cell cell-requires-2 returns returns-2)
+    (tie.spec
+    (λ c. search needs)
+    (λ c. search needs)
+    (λ c. search needs)
+    returns
+    (λ c. search needs)
+    (λ c. search needs)
+    (λ c. search needs)
+    returns-2)

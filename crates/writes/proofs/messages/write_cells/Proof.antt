@@ -3,7 +3,7 @@ use mathlib.Core.Path.{refl, _∙_}
 use native.Mathlib.Omega.{arith}
 use Rattle.table.specs.Table.{table}
 use Rattle.table.specs.Theorems.{kinds-are}
-use Rattle.rows.specs.Coding.{names, numbers, kindNames, kinds}
+use Rattle.rows.specs.Coding.{KINDS, names, numbers, kindNames, kinds}
 use Rattle.writes.proofs.WorthLaws.{low, high, right}
 use Rattle.writes.proofs.MessageLaws.{small, countable, is-refused, no-kind, no-room, is-written}
 use borrow.Author.Needs.{needs}
@@ -26,10 +26,12 @@ returns : tie.Need-returns
 returns c = is-refused (c .before .before .before .before .before .before .before .args .kind) (c .before .before .before .before .before .before .before .args .cells .now) (c .before .before .before .before .before .before .before .args .id .now) (c .before .before .before .before .before .before .before .args .texts .now) (c .before .before .before .before .before .before .before .args .out .now) (c .before .refusal-of-rows .ensures) (c .if1 .taken)
 
 returns-2 : tie.Need-returns-2
-returns-2 c = no-kind (c .before .before .before .before .before .before .before .before .args .kind) (c .before .before .before .before .before .before .before .before .args .cells .now) (c .before .before .before .before .before .before .before .before .args .id .now) (c .before .before .before .before .before .before .before .before .args .texts .now) (c .before .before .before .before .before .before .before .before .args .out .now) (c .before .before .refusal-of-rows .ensures) (c .before .if1 .left) (kinds-are (c .before .before .before .before .before .before .before .before .args .kind) ∙ low 1 10 (c .before .before .before .before .before .before .before .before .args .kind) (c .if2 .taken))
+unfolding table
+returns-2 c = no-kind (c .before .before .before .before .before .before .before .before .args .kind) (c .before .before .before .before .before .before .before .before .args .cells .now) (c .before .before .before .before .before .before .before .before .args .id .now) (c .before .before .before .before .before .before .before .before .args .texts .now) (c .before .before .before .before .before .before .before .before .args .out .now) (c .before .before .refusal-of-rows .ensures) (c .before .if1 .left) (kinds-are (c .before .before .before .before .before .before .before .before .args .kind) ∙ low 1 KINDS (c .before .before .before .before .before .before .before .before .args .kind) (c .if2 .taken))
 
 returns-3 : tie.Need-returns-3
-returns-3 c = no-kind (c .before .before .before .before .before .before .before .before .before .args .kind) (c .before .before .before .before .before .before .before .before .before .args .cells .now) (c .before .before .before .before .before .before .before .before .before .args .id .now) (c .before .before .before .before .before .before .before .before .before .args .texts .now) (c .before .before .before .before .before .before .before .before .before .args .out .now) (c .before .before .before .refusal-of-rows .ensures) (c .before .before .if1 .left) (kinds-are (c .before .before .before .before .before .before .before .before .before .args .kind) ∙ high 1 10 (c .before .before .before .before .before .before .before .before .before .args .kind) (c .before .if2 .left) (c .if3 .taken))
+unfolding table
+returns-3 c = no-kind (c .before .before .before .before .before .before .before .before .before .args .kind) (c .before .before .before .before .before .before .before .before .before .args .cells .now) (c .before .before .before .before .before .before .before .before .before .args .id .now) (c .before .before .before .before .before .before .before .before .before .args .texts .now) (c .before .before .before .before .before .before .before .before .before .args .out .now) (c .before .before .before .refusal-of-rows .ensures) (c .before .before .if1 .left) (kinds-are (c .before .before .before .before .before .before .before .before .before .args .kind) ∙ high 1 KINDS (c .before .before .before .before .before .before .before .before .before .args .kind) (c .before .if2 .left) (c .if3 .taken))
 
 slice-aggregate-kind-name : tie.Need-slice-aggregate-kind-name
 slice-aggregate-kind-name c = search needs
@@ -39,7 +41,7 @@ slice-aggregate-kind-name-2 c = search needs
 
 kind-name-requires : tie.Need-kind-name-requires
 unfolding kindNames kinds table
-kind-name-requires c κs = (refl, refl, kinds-are (c .before .before .before .before .before .before .before .before .before .before .before .args .kind) ∙ right 1 10 (c .before .before .before .before .before .before .before .before .before .before .before .args .kind) (c .before .before .before .if2 .left) (c .before .before .if3 .left))
+kind-name-requires c κs = (refl, refl, kinds-are (c .before .before .before .before .before .before .before .before .before .before .before .args .kind) ∙ right 1 KINDS (c .before .before .before .before .before .before .before .before .before .before .before .args .kind) (c .before .before .before .if2 .left) (c .before .before .if3 .left))
 
 slice-aggregate-put-message : tie.Need-slice-aggregate-put-message
 slice-aggregate-put-message c = search needs
@@ -49,13 +51,14 @@ slice-aggregate-put-message-2 c = search needs
 
 put-message-requires : tie.Need-put-message-requires
 unfolding names numbers table
-put-message-requires c κs = (c .before .before .before .before .kind-name .ensures, refl, refl, countable (c .before .before .before .before .before .before .before .before .before .before .before .before .before .before .before .before .args .kind) (c .before .before .before .before .before .before .before .before .before .before .before .before .before .before .before .before .args .cells .now) (c .before .before .before .before .before .before .before .before .before .before .before .before .before .before .before .before .args .id .now) (c .before .before .before .before .before .before .before .before .before .before .before .before .before .before .before .before .args .texts .now) (c .before .before .before .before .before .before .before .before .before .before .refusal-of-rows .ensures) (c .before .before .before .before .before .before .before .before .before .if1 .left) (kinds-are (c .before .before .before .before .before .before .before .before .before .before .before .before .before .before .before .before .args .kind) ∙ right 1 10 (c .before .before .before .before .before .before .before .before .before .before .before .before .before .before .before .before .args .kind) (c .before .before .before .before .before .before .before .before .if2 .left) (c .before .before .before .before .before .before .before .if3 .left)))
+put-message-requires c κs = (c .before .before .before .before .kind-name .ensures, refl, refl, countable (c .before .before .before .before .before .before .before .before .before .before .before .before .before .before .before .before .args .kind) (c .before .before .before .before .before .before .before .before .before .before .before .before .before .before .before .before .args .cells .now) (c .before .before .before .before .before .before .before .before .before .before .before .before .before .before .before .before .args .id .now) (c .before .before .before .before .before .before .before .before .before .before .before .before .before .before .before .before .args .texts .now) (c .before .before .before .before .before .before .before .before .before .before .refusal-of-rows .ensures) (c .before .before .before .before .before .before .before .before .before .if1 .left) (kinds-are (c .before .before .before .before .before .before .before .before .before .before .before .before .before .before .before .before .args .kind) ∙ right 1 KINDS (c .before .before .before .before .before .before .before .before .before .before .before .before .before .before .before .before .args .kind) (c .before .before .before .before .before .before .before .before .if2 .left) (c .before .before .before .before .before .before .before .if3 .left)))
 
 same-length : tie.Need-same-length
 same-length c = search needs
 
 returns-4 : tie.Need-returns-4
-returns-4 c = is-written (c .before .before .before .before .before .before .before .before .before .before .before .before .before .before .before .before .before .before .before .args .kind) (c .before .before .before .before .before .before .before .before .before .before .before .before .before .before .before .before .before .before .before .args .cells .now) (c .before .before .before .before .before .before .before .before .before .before .before .before .before .before .before .before .before .before .before .args .id .now) (c .before .before .before .before .before .before .before .before .before .before .before .before .before .before .before .before .before .before .before .args .texts .now) (c .before .before .before .before .before .before .before .before .before .before .before .before .before .before .before .before .before .before .before .args .out .now) (c .before .before .before .before .before .before .before .before .before .before .before .before .before .refusal-of-rows .ensures) (c .before .before .before .before .before .before .before .before .before .before .before .before .if1 .left) (kinds-are (c .before .before .before .before .before .before .before .before .before .before .before .before .before .before .before .before .before .before .before .args .kind) ∙ right 1 10 (c .before .before .before .before .before .before .before .before .before .before .before .before .before .before .before .before .before .before .before .args .kind) (c .before .before .before .before .before .before .before .before .before .before .before .if2 .left) (c .before .before .before .before .before .before .before .before .before .before .if3 .left)) (let x = small (c .before .before .before .before .before .before .before .before .before .before .before .before .before .before .before .before .before .before .before .args .kind) (c .before .before .before .before .before .before .before .before .before .before .before .before .before .before .before .before .before .before .before .args .cells .now) (c .before .before .before .before .before .before .before .before .before .before .before .before .before .before .before .before .before .before .before .args .id .now) (c .before .before .before .before .before .before .before .before .before .before .before .before .before .before .before .before .before .before .before .args .texts .now) (c .before .before .before .before .before .before .before .before .before .before .before .before .before .refusal-of-rows .ensures) (c .before .before .before .before .before .before .before .before .before .before .before .before .if1 .left) (kinds-are (c .before .before .before .before .before .before .before .before .before .before .before .before .before .before .before .before .before .before .before .args .kind) ∙ right 1 10 (c .before .before .before .before .before .before .before .before .before .before .before .before .before .before .before .before .before .before .before .args .kind) (c .before .before .before .before .before .before .before .before .before .before .before .if2 .left) (c .before .before .before .before .before .before .before .before .before .before .if3 .left)) in omega (arith, (c .before .before .before .before .before .before .if4 .taken))) (c .before .before .put-message .ensures)
+unfolding table
+returns-4 c = is-written (c .before .before .before .before .before .before .before .before .before .before .before .before .before .before .before .before .before .before .before .args .kind) (c .before .before .before .before .before .before .before .before .before .before .before .before .before .before .before .before .before .before .before .args .cells .now) (c .before .before .before .before .before .before .before .before .before .before .before .before .before .before .before .before .before .before .before .args .id .now) (c .before .before .before .before .before .before .before .before .before .before .before .before .before .before .before .before .before .before .before .args .texts .now) (c .before .before .before .before .before .before .before .before .before .before .before .before .before .before .before .before .before .before .before .args .out .now) (c .before .before .before .before .before .before .before .before .before .before .before .before .before .refusal-of-rows .ensures) (c .before .before .before .before .before .before .before .before .before .before .before .before .if1 .left) (kinds-are (c .before .before .before .before .before .before .before .before .before .before .before .before .before .before .before .before .before .before .before .args .kind) ∙ right 1 KINDS (c .before .before .before .before .before .before .before .before .before .before .before .before .before .before .before .before .before .before .before .args .kind) (c .before .before .before .before .before .before .before .before .before .before .before .if2 .left) (c .before .before .before .before .before .before .before .before .before .before .if3 .left)) (let x = small (c .before .before .before .before .before .before .before .before .before .before .before .before .before .before .before .before .before .before .before .args .kind) (c .before .before .before .before .before .before .before .before .before .before .before .before .before .before .before .before .before .before .before .args .cells .now) (c .before .before .before .before .before .before .before .before .before .before .before .before .before .before .before .before .before .before .before .args .id .now) (c .before .before .before .before .before .before .before .before .before .before .before .before .before .before .before .before .before .before .before .args .texts .now) (c .before .before .before .before .before .before .before .before .before .before .before .before .before .refusal-of-rows .ensures) (c .before .before .before .before .before .before .before .before .before .before .before .before .if1 .left) (kinds-are (c .before .before .before .before .before .before .before .before .before .before .before .before .before .before .before .before .before .before .before .args .kind) ∙ right 1 KINDS (c .before .before .before .before .before .before .before .before .before .before .before .before .before .before .before .before .before .before .before .args .kind) (c .before .before .before .before .before .before .before .before .before .before .before .if2 .left) (c .before .before .before .before .before .before .before .before .before .before .if3 .left)) in omega (arith, (c .before .before .before .before .before .before .if4 .taken))) (c .before .before .put-message .ensures)
 
 slice-aggregate-put-message-3 : tie.Need-slice-aggregate-put-message-3
 slice-aggregate-put-message-3 c = search needs
@@ -68,10 +71,11 @@ slice-aggregate-put-message-5 c = search needs
 
 put-message-requires-2 : tie.Need-put-message-requires-2
 unfolding names numbers table
-put-message-requires-2 c κs = (c .before .before .before .before .kind-name .ensures, refl, refl, countable (c .before .before .before .before .before .before .before .before .before .before .before .before .before .before .before .before .args .kind) (c .before .before .before .before .before .before .before .before .before .before .before .before .before .before .before .before .args .cells .now) (c .before .before .before .before .before .before .before .before .before .before .before .before .before .before .before .before .args .id .now) (c .before .before .before .before .before .before .before .before .before .before .before .before .before .before .before .before .args .texts .now) (c .before .before .before .before .before .before .before .before .before .before .refusal-of-rows .ensures) (c .before .before .before .before .before .before .before .before .before .if1 .left) (kinds-are (c .before .before .before .before .before .before .before .before .before .before .before .before .before .before .before .before .args .kind) ∙ right 1 10 (c .before .before .before .before .before .before .before .before .before .before .before .before .before .before .before .before .args .kind) (c .before .before .before .before .before .before .before .before .if2 .left) (c .before .before .before .before .before .before .before .if3 .left)))
+put-message-requires-2 c κs = (c .before .before .before .before .kind-name .ensures, refl, refl, countable (c .before .before .before .before .before .before .before .before .before .before .before .before .before .before .before .before .args .kind) (c .before .before .before .before .before .before .before .before .before .before .before .before .before .before .before .before .args .cells .now) (c .before .before .before .before .before .before .before .before .before .before .before .before .before .before .before .before .args .id .now) (c .before .before .before .before .before .before .before .before .before .before .before .before .before .before .before .before .args .texts .now) (c .before .before .before .before .before .before .before .before .before .before .refusal-of-rows .ensures) (c .before .before .before .before .before .before .before .before .before .if1 .left) (kinds-are (c .before .before .before .before .before .before .before .before .before .before .before .before .before .before .before .before .args .kind) ∙ right 1 KINDS (c .before .before .before .before .before .before .before .before .before .before .before .before .before .before .before .before .args .kind) (c .before .before .before .before .before .before .before .before .if2 .left) (c .before .before .before .before .before .before .before .if3 .left)))
 
 returns-5 : tie.Need-returns-5
-returns-5 c = no-room (c .before .before .before .before .before .before .before .before .before .before .before .before .before .before .before .before .before .before .before .args .kind) (c .before .before .before .before .before .before .before .before .before .before .before .before .before .before .before .before .before .before .before .args .cells .now) (c .before .before .before .before .before .before .before .before .before .before .before .before .before .before .before .before .before .before .before .args .id .now) (c .before .before .before .before .before .before .before .before .before .before .before .before .before .before .before .before .before .before .before .args .texts .now) (c .before .before .before .before .before .before .before .before .before .before .before .before .before .before .before .before .before .before .before .args .out .now) (c .before .before .before .before .before .before .before .before .before .before .before .before .before .refusal-of-rows .ensures) (c .before .before .before .before .before .before .before .before .before .before .before .before .if1 .left) (kinds-are (c .before .before .before .before .before .before .before .before .before .before .before .before .before .before .before .before .before .before .before .args .kind) ∙ right 1 10 (c .before .before .before .before .before .before .before .before .before .before .before .before .before .before .before .before .before .before .before .args .kind) (c .before .before .before .before .before .before .before .before .before .before .before .if2 .left) (c .before .before .before .before .before .before .before .before .before .before .if3 .left)) (c .before .before .put-message2 .ensures .next) (c .if5 .taken)
+unfolding table
+returns-5 c = no-room (c .before .before .before .before .before .before .before .before .before .before .before .before .before .before .before .before .before .before .before .args .kind) (c .before .before .before .before .before .before .before .before .before .before .before .before .before .before .before .before .before .before .before .args .cells .now) (c .before .before .before .before .before .before .before .before .before .before .before .before .before .before .before .before .before .before .before .args .id .now) (c .before .before .before .before .before .before .before .before .before .before .before .before .before .before .before .before .before .before .before .args .texts .now) (c .before .before .before .before .before .before .before .before .before .before .before .before .before .before .before .before .before .before .before .args .out .now) (c .before .before .before .before .before .before .before .before .before .before .before .before .before .refusal-of-rows .ensures) (c .before .before .before .before .before .before .before .before .before .before .before .before .if1 .left) (kinds-are (c .before .before .before .before .before .before .before .before .before .before .before .before .before .before .before .before .before .before .before .args .kind) ∙ right 1 KINDS (c .before .before .before .before .before .before .before .before .before .before .before .before .before .before .before .before .before .before .before .args .kind) (c .before .before .before .before .before .before .before .before .before .before .before .if2 .left) (c .before .before .before .before .before .before .before .before .before .before .if3 .left)) (c .before .before .put-message2 .ensures .next) (c .if5 .taken)
 
 slice-aggregate-put-message-6 : tie.Need-slice-aggregate-put-message-6
 slice-aggregate-put-message-6 c = search needs
@@ -81,13 +85,14 @@ slice-aggregate-put-message-7 c = search needs
 
 put-message-requires-3 : tie.Need-put-message-requires-3
 unfolding names numbers table
-put-message-requires-3 c κs = (c .before .before .before .before .before .before .before .before .before .before .kind-name .ensures, refl, refl, countable (c .before .before .before .before .before .before .before .before .before .before .before .before .before .before .before .before .before .before .before .before .before .before .args .kind) (c .before .before .before .before .before .before .before .before .before .before .before .before .before .before .before .before .before .before .before .before .before .before .args .cells .now) (c .before .before .before .before .before .before .before .before .before .before .before .before .before .before .before .before .before .before .before .before .before .before .args .id .now) (c .before .before .before .before .before .before .before .before .before .before .before .before .before .before .before .before .before .before .before .before .before .before .args .texts .now) (c .before .before .before .before .before .before .before .before .before .before .before .before .before .before .before .before .refusal-of-rows .ensures) (c .before .before .before .before .before .before .before .before .before .before .before .before .before .before .before .if1 .left) (kinds-are (c .before .before .before .before .before .before .before .before .before .before .before .before .before .before .before .before .before .before .before .before .before .before .args .kind) ∙ right 1 10 (c .before .before .before .before .before .before .before .before .before .before .before .before .before .before .before .before .before .before .before .before .before .before .args .kind) (c .before .before .before .before .before .before .before .before .before .before .before .before .before .before .if2 .left) (c .before .before .before .before .before .before .before .before .before .before .before .before .before .if3 .left)))
+put-message-requires-3 c κs = (c .before .before .before .before .before .before .before .before .before .before .kind-name .ensures, refl, refl, countable (c .before .before .before .before .before .before .before .before .before .before .before .before .before .before .before .before .before .before .before .before .before .before .args .kind) (c .before .before .before .before .before .before .before .before .before .before .before .before .before .before .before .before .before .before .before .before .before .before .args .cells .now) (c .before .before .before .before .before .before .before .before .before .before .before .before .before .before .before .before .before .before .before .before .before .before .args .id .now) (c .before .before .before .before .before .before .before .before .before .before .before .before .before .before .before .before .before .before .before .before .before .before .args .texts .now) (c .before .before .before .before .before .before .before .before .before .before .before .before .before .before .before .before .refusal-of-rows .ensures) (c .before .before .before .before .before .before .before .before .before .before .before .before .before .before .before .if1 .left) (kinds-are (c .before .before .before .before .before .before .before .before .before .before .before .before .before .before .before .before .before .before .before .before .before .before .args .kind) ∙ right 1 KINDS (c .before .before .before .before .before .before .before .before .before .before .before .before .before .before .before .before .before .before .before .before .before .before .args .kind) (c .before .before .before .before .before .before .before .before .before .before .before .before .before .before .if2 .left) (c .before .before .before .before .before .before .before .before .before .before .before .before .before .if3 .left)))
 
 same-length-2 : tie.Need-same-length-2
 same-length-2 c = search needs
 
 returns-6 : tie.Need-returns-6
-returns-6 c = is-written (c .before .before .before .before .before .before .before .before .before .before .before .before .before .before .before .before .before .before .before .before .before .before .before .before .before .args .kind) (c .before .before .before .before .before .before .before .before .before .before .before .before .before .before .before .before .before .before .before .before .before .before .before .before .before .args .cells .now) (c .before .before .before .before .before .before .before .before .before .before .before .before .before .before .before .before .before .before .before .before .before .before .before .before .before .args .id .now) (c .before .before .before .before .before .before .before .before .before .before .before .before .before .before .before .before .before .before .before .before .before .before .before .before .before .args .texts .now) (c .before .before .before .before .before .before .before .before .before .before .before .before .before .before .before .before .before .before .before .before .before .before .before .before .before .args .out .now) (c .before .before .before .before .before .before .before .before .before .before .before .before .before .before .before .before .before .before .before .refusal-of-rows .ensures) (c .before .before .before .before .before .before .before .before .before .before .before .before .before .before .before .before .before .before .if1 .left) (kinds-are (c .before .before .before .before .before .before .before .before .before .before .before .before .before .before .before .before .before .before .before .before .before .before .before .before .before .args .kind) ∙ right 1 10 (c .before .before .before .before .before .before .before .before .before .before .before .before .before .before .before .before .before .before .before .before .before .before .before .before .before .args .kind) (c .before .before .before .before .before .before .before .before .before .before .before .before .before .before .before .before .before .if2 .left) (c .before .before .before .before .before .before .before .before .before .before .before .before .before .before .before .before .if3 .left)) (let n = c .before .before .before .before .before .before .before .before .put-message2 .ensures .next in let h = c .before .before .before .before .before .before .if5 .left in omega (arith, n, h)) (c .before .before .put-message3 .ensures)
+unfolding table
+returns-6 c = is-written (c .before .before .before .before .before .before .before .before .before .before .before .before .before .before .before .before .before .before .before .before .before .before .before .before .before .args .kind) (c .before .before .before .before .before .before .before .before .before .before .before .before .before .before .before .before .before .before .before .before .before .before .before .before .before .args .cells .now) (c .before .before .before .before .before .before .before .before .before .before .before .before .before .before .before .before .before .before .before .before .before .before .before .before .before .args .id .now) (c .before .before .before .before .before .before .before .before .before .before .before .before .before .before .before .before .before .before .before .before .before .before .before .before .before .args .texts .now) (c .before .before .before .before .before .before .before .before .before .before .before .before .before .before .before .before .before .before .before .before .before .before .before .before .before .args .out .now) (c .before .before .before .before .before .before .before .before .before .before .before .before .before .before .before .before .before .before .before .refusal-of-rows .ensures) (c .before .before .before .before .before .before .before .before .before .before .before .before .before .before .before .before .before .before .if1 .left) (kinds-are (c .before .before .before .before .before .before .before .before .before .before .before .before .before .before .before .before .before .before .before .before .before .before .before .before .before .args .kind) ∙ right 1 KINDS (c .before .before .before .before .before .before .before .before .before .before .before .before .before .before .before .before .before .before .before .before .before .before .before .before .before .args .kind) (c .before .before .before .before .before .before .before .before .before .before .before .before .before .before .before .before .before .if2 .left) (c .before .before .before .before .before .before .before .before .before .before .before .before .before .before .before .before .if3 .left)) (let n = c .before .before .before .before .before .before .before .before .put-message2 .ensures .next in let h = c .before .before .before .before .before .before .if5 .left in omega (arith, n, h)) (c .before .before .put-message3 .ensures)
 
 pub write-cells-spec : {M : Type 1} → statement M
 write-cells-spec =

@@ -1,0 +1,1 @@
+-- The definitions are message's: Cells, Messages.

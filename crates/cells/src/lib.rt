@@ -1,0 +1,11 @@
+// The numbers of a message: one of them, the kind, a text, the BoardId; all of them cleared.
+mod ids;
+mod numbers;
+
+pub use ids::named_id;
+pub use numbers::NUMBERS;
+pub use numbers::blank;
+pub use numbers::cell;
+pub use numbers::clear;
+pub use numbers::kind_in;
+pub use numbers::text_from;

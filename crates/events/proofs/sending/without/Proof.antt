@@ -1,0 +1,18 @@
+-- No forecast.
+use mathlib.Core.Path.{ap}
+use Rattle.lane.specs.declared.ids.Forecast.{Forecast}
+use borrow.Author.Needs.{needs}
+use Rattle.events.proofs.sending.without.Statement.{statement}
+use Rattle.events.proofs.sending.without.Tie as tie
+use Rattle.events.proofs.sending.without.Reads as reads
+use Rattle.events.proofs.sending.without.Lts as lts
+use Rattle.lane.proofs.ids.Forecast.none.Reads as none-reads
+
+none-requires : tie.Need-none-requires
+none-requires c κs = search needs
+
+returns : tie.Need-returns
+returns c = rw (c .none .ensures)
+
+pub without-spec : {M : Type 1} → statement M
+without-spec = tie.close (tie.spec none-requires returns)

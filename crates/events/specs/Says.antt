@@ -1,0 +1,43 @@
+-- What the functions of the crate promise.
+use mathlib.Core.Path.{_≡_}
+use mathlib.Core.List.{List, _++_}
+use Prim.Native.Nat.{ℕ, _+_, _≤_}
+use lib.ListN.{length, take, drop, replicate}
+use Rattle.lane.specs.declared.Event.{Event}
+use Rattle.lane.specs.declared.ids.Forecast.{Forecast}
+use Rattle.grammar.specs.Bytes.{Bytes}
+use Rattle.value.specs.Text.{Text}
+use Rattle.value.specs.declared.text.Span.{Span}
+use Rattle.value.specs.declared.text.Words.{Words}
+use Rattle.value.specs.declared.text.Words.the-variants.{Present as IsWords}
+use Rattle.message.specs.Messages.{messageBy}
+use Rattle.events.specs.Events.{Carried, a-forecast, forecastOf, isThere, forecastId, Carries, carriedIn}
+
+-- a text of s that `check` let pass: of at most 80 bytes
+abbrev pub Sound : Bytes → Words → Type 0
+Sound s w = (p : Span) → w ≡ IsWords p → (v : Bytes) × Text (take (p .len) (drop (p .start) s)) v × (p .start + p .len ≤ length s) × (length v ≤ 80)
+
+-- bytes that are no more than 80, as a lane keeps them
+pub record Kept (v : Bytes) (r : Forecast) : Type 0 where
+  pub says : length v ≤ 80 → r ≡ forecastOf (a-forecast v)
+
+-- the ForecastId that stands at the place p of s
+pub record Reads (s : Bytes) (p : Span) (r : Forecast) : Type 0 where
+  pub says : (v : Bytes) → Text (take (p .len) (drop (p .start) s)) v → p .start + p .len ≤ length s → length v ≤ 80 → r ≡ forecastOf (a-forecast v)
+
+-- the value ForecastId of a message of cells
+pub record Names (k : ℕ) (cells : List ℕ) (w : Words) : Type 0 where
+  pub says : (id : Bytes) → w ≡ forecastId (messageBy k cells id)
+
+abbrev pub eventWith : ℕ → Bytes → Carried → Event
+eventWith k id f = record { kind = k; id = id; carries = isThere f; forecast = forecastOf f }
+
+-- the event of a message of cells that was received in s, whose BoardId is `id`
+pub record Got (s : Bytes) (k : ℕ) (cells : List ℕ) (id : Bytes) (r : Event) : Type 0 where
+  pub forecast : Carried
+  pub carries : (i : Bytes) → Carries s (forecastId (messageBy k cells i)) forecast
+  pub is : r ≡ eventWith k id forecast
+
+-- of one to be sent with these texts
+pub record Given (texts : Bytes) (k : ℕ) (cells : List ℕ) (id : Bytes) (r : Event) : Type 0 where
+  pub is : (i : Bytes) → r ≡ eventWith k id (carriedIn texts (forecastId (messageBy k cells i)))
