@@ -16,7 +16,7 @@ enum event {
     ARRIVED,   /* own sensor: the board is fully in (downstream) */
     TROUBLE,   /* own error, own time-out, or the operator stops */
     FORESEES,  /* own: another product comes next (upstream) */
-    WIDENS,    /* own: the rails are set for the forecast board (downstream) */
+    WIDENS,    /* own: the rails are to be set for the forecast board (downstream) */
     DECLINES,  /* own: the rails cannot be set for it (downstream) */
     REFUSED,   /* receiving is refused with 2, 3, 4, 5, 6 or 9 */
     NO_ROOM,   /* receiving is refused with 7 */
