@@ -30,7 +30,7 @@ inline const Row TABLE[12][18] = {
      {"FlippedBoard", INT, 0, 2, false}, {"TopBarcode", TEXT, 0, 254, true}, {"BottomBarcode", TEXT, 0, 254, true}, {"Length", POSITIVE, 0, 0, true},
      {"Width", POSITIVE, 0, 0, true}, {"Thickness", POSITIVE, 0, 0, true}, {"ConveyorSpeed", POSITIVE, 0, 0, true},
      {"TopClearanceHeight", POSITIVE, 0, 0, true}, {"BottomClearanceHeight", POSITIVE, 0, 0, true}, {"Weight", POSITIVE, 0, 0, true},
-     {"WorkOrderId", TEXT, 0, 80, true}},
+     {"WorkOrderId", TEXT, 0, 80, true}, {"Route", INT, 0, 65535, true}, {"BatchId", TEXT, 0, 80, true}},
     {},
     {{"FailedBoard", INT, 0, 2, false}, {"ForecastId", TEXT, 0, 80, true}},
     {},

@@ -86,6 +86,16 @@ enum {
     TRYPHOMEL_PONG = 2
 };
 
+/* The classes of a Route. */
+enum {
+    TRYPHOMEL_ROUTE_UNDEFINED = 0,
+    TRYPHOMEL_ROUTE_NUMBERED = 1,
+    TRYPHOMEL_ROUTE_RETURN = 2,
+    TRYPHOMEL_ROUTE_MANUAL_REMOVAL = 3,
+    TRYPHOMEL_ROUTE_RESERVED = 4,
+    TRYPHOMEL_ROUTE_OWN = 5
+};
+
 /* The bits of SupportedFeatures. */
 enum {
     TRYPHOMEL_FEATURE_FORECAST = 1,
@@ -164,6 +174,8 @@ typedef struct {
             tryphomel_words top, bottom;
             tryphomel_number length, width, thickness, speed, above, below, weight;
             tryphomel_words order;
+            tryphomel_number route; /* Route; tryphomel_route_class tells its class */
+            tryphomel_words batch;  /* BatchId */
         } board;
         struct { /* MachineReady */
             tryphomel_number failed;
@@ -234,6 +246,9 @@ uint8_t tryphomel_check(const uint8_t *bytes, size_t size, uint64_t numbers[TRYP
 /* The text of a value: refusal 0, 4, 6 or 7; place 1: bytes[at..at+count], 2: scratch[0..count]. */
 uint8_t tryphomel_text(const uint8_t *bytes, size_t size, uint8_t there, uint64_t start, uint64_t len, uint8_t *scratch, size_t room, uint64_t *place,
                        uint64_t *at, uint64_t *count);
+
+/* The class of a Route. Every number has one. */
+uint8_t tryphomel_route_class(uint64_t route);
 
 /* A new lane of a side, and a lane after its connection was lost. */
 void tryphomel_upstream(uint8_t *side, uint8_t *state, uint8_t offered[TRYPHOMEL_ID_BYTES], uint8_t running[TRYPHOMEL_ID_BYTES],

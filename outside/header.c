@@ -172,17 +172,22 @@ static void boards(void) {
     m.as.board.below = tryphomel_is(6000000);
     m.as.board.weight = tryphomel_is(500000);
     m.as.board.order = put("WO 9");
+    m.as.board.route = tryphomel_is(900);
+    m.as.board.batch = put("lot 4");
     c = there_and_back(__LINE__, TRYPHOMEL_UPSTREAM, TRYPHOMEL_IDLE, m,
                        "<Hermes><BoardAvailable BoardId=\"0123abcd-4567-89ef-0123-456789abcdef\" BoardIdCreatedBy=\"Loader\" FailedBoard=\"1\""
                        " ProductTypeId=\"type 5\" FlippedBoard=\"2\" TopBarcode=\"T-77\" BottomBarcode=\"B-88\" Length=\"160.5\" Width=\"2\" Thickness=\"1.6\""
-                       " ConveyorSpeed=\"4\" TopClearanceHeight=\"25.000001\" BottomClearanceHeight=\"6\" Weight=\"0.5\" WorkOrderId=\"WO 9\"/></Hermes>",
+                       " ConveyorSpeed=\"4\" TopClearanceHeight=\"25.000001\" BottomClearanceHeight=\"6\" Weight=\"0.5\" WorkOrderId=\"WO 9\""
+                       " Route=\"900\" BatchId=\"lot 4\"/></Hermes>",
                        TRYPHOMEL_OFFERED);
-    CHECK(is_board(&c.message, c.message.as.board.id) && none_from(&c.message, 15));
+    CHECK(is_board(&c.message, c.message.as.board.id) && none_from(&c.message, 17));
     CHECK(is_text(c.message.as.board.by, "Loader") && is_number(c.message.as.board.failed, 1) && is_text(c.message.as.board.product, "type 5"));
     CHECK(is_number(c.message.as.board.flipped, 2) && is_text(c.message.as.board.top, "T-77") && is_text(c.message.as.board.bottom, "B-88"));
     CHECK(is_number(c.message.as.board.length, 160500000) && is_number(c.message.as.board.width, 2000000) && is_number(c.message.as.board.thickness, 1600000));
     CHECK(is_number(c.message.as.board.speed, 4000000) && is_number(c.message.as.board.above, 25000001) && is_number(c.message.as.board.below, 6000000));
     CHECK(is_number(c.message.as.board.weight, 500000) && is_text(c.message.as.board.order, "WO 9"));
+    CHECK(is_number(c.message.as.board.route, 900) && is_text(c.message.as.board.batch, "lot 4"));
+    CHECK(tryphomel_route_class(c.message.as.board.route.value) == TRYPHOMEL_ROUTE_RETURN);
     there_and_back(__LINE__, TRYPHOMEL_UPSTREAM, TRYPHOMEL_BOTH, tryphomel_blank(TRYPHOMEL_REVOKE_BOARD_AVAILABLE), "<Hermes><RevokeBoardAvailable/></Hermes>",
                    TRYPHOMEL_READY);
     m = tryphomel_blank(TRYPHOMEL_MACHINE_READY);
@@ -195,6 +200,23 @@ static void boards(void) {
     CHECK(is_number(c.message.as.ready.failed, 2) && is_text(c.message.as.ready.forecast, "F 7") && none_from(&c.message, 2) && no_board(&c.message));
     there_and_back(__LINE__, TRYPHOMEL_DOWNSTREAM, TRYPHOMEL_READY, tryphomel_blank(TRYPHOMEL_REVOKE_MACHINE_READY), "<Hermes><RevokeMachineReady/></Hermes>",
                    TRYPHOMEL_IDLE);
+}
+
+/* The class of every number up to 70,000, and of larger ones, beside the order's sentence. */
+static int route_class(uint64_t n) {
+    if (n >= 1000) return TRYPHOMEL_ROUTE_OWN;
+    if (n == 900) return TRYPHOMEL_ROUTE_RETURN;
+    if (n == 999) return TRYPHOMEL_ROUTE_MANUAL_REMOVAL;
+    if (n > 99) return TRYPHOMEL_ROUTE_RESERVED;
+    return n ? TRYPHOMEL_ROUTE_NUMBERED : TRYPHOMEL_ROUTE_UNDEFINED;
+}
+
+static void routes(void) {
+    uint64_t n;
+    int wrong = 0;
+    for (n = 0; n < 70000; n++) wrong += tryphomel_route_class(n) != route_class(n);
+    for (n = 1; n; n <<= 1) wrong += tryphomel_route_class(n) != route_class(n) || tryphomel_route_class(n + 900) != route_class(n + 900);
+    CHECK(wrong == 0 && tryphomel_route_class(UINT64_MAX) == TRYPHOMEL_ROUTE_OWN);
 }
 
 static void forecasts(void) {
@@ -664,8 +686,10 @@ static void rooms(void) {
     CHECK(tryphomel_lane_send(&l, &m, texts, strlen(texts), out, TRYPHOMEL_SEND_ROOM - 1, &s) == TRYPHOMEL_NO_ROOM);
     CHECK(tryphomel_lane_send(&l, &m, texts, strlen(texts), out, TRYPHOMEL_SEND_ROOM, &s) == TRYPHOMEL_ACCEPTED && s.written == TRYPHOMEL_SEND_ROOM);
     m = as_board(&m);
-    CHECK(tryphomel_lane_send(&l, &m, texts, strlen(texts), out, 5932, &s) == TRYPHOMEL_NO_ROOM);
-    CHECK(tryphomel_lane_send(&l, &m, texts, strlen(texts), out, 5933, &s) == TRYPHOMEL_ACCEPTED && s.written == 5933);
+    m.as.board.route = tryphomel_is(65535);
+    m.as.board.batch = tryphomel_part(0, TRYPHOMEL_SHORT_TEXT);
+    CHECK(tryphomel_lane_send(&l, &m, texts, strlen(texts), out, 6437, &s) == TRYPHOMEL_NO_ROOM);
+    CHECK(tryphomel_lane_send(&l, &m, texts, strlen(texts), out, 6438, &s) == TRYPHOMEL_ACCEPTED && s.written == 6438);
     texts[0] = 0;
 }
 
@@ -687,6 +711,7 @@ int main(void) {
     names();
     descriptions();
     boards();
+    routes();
     forecasts();
     transports();
     handover();

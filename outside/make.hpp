@@ -47,7 +47,7 @@ inline const std::vector<Row> &table() {
           {"ProductTypeId", 't', true, 0, 254}, {"FlippedBoard", 'i', false, 0, 2}, {"TopBarcode", 't', true, 0, 254},
           {"BottomBarcode", 't', true, 0, 254}, {"Length", 'p', true, 0, 0}, {"Width", 'p', true, 0, 0}, {"Thickness", 'p', true, 0, 0},
           {"ConveyorSpeed", 'p', true, 0, 0}, {"TopClearanceHeight", 'p', true, 0, 0}, {"BottomClearanceHeight", 'p', true, 0, 0},
-          {"Weight", 'p', true, 0, 0}, {"WorkOrderId", 't', true, 0, 80}}},
+          {"Weight", 'p', true, 0, 0}, {"WorkOrderId", 't', true, 0, 80}, {"Route", 'i', true, 0, 65535}, {"BatchId", 't', true, 0, 80}}},
         {"RevokeBoardAvailable", {}},
         {"MachineReady", {{"FailedBoard", 'i', false, 0, 2}, {"ForecastId", 't', true, 0, 80}}},
         {"RevokeMachineReady", {}},

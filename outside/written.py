@@ -39,6 +39,11 @@ def forecast(*attributes):
     return bare("BoardForecast", *attributes, ("FailedBoard", "0"), ("FlippedBoard", "1"))
 
 
+def board(*attributes, by="M"):
+    """A BoardAvailable with these behind what it must have."""
+    return bare("BoardAvailable", ("BoardId", MIXED), ("BoardIdCreatedBy", by), ("FailedBoard", "0"), ("FlippedBoard", "0"), *attributes)
+
+
 MOST = "9999999.999999"
 
 MEANT = [
@@ -149,6 +154,30 @@ MEANT = [
         ("BottomClearanceHeight", MOST),
         ("Weight", MOST),
         ("WorkOrderId", '"' * 80),
+    ),
+    board(("Route", "0")),
+    board(("Route", "900"), ("BatchId", 'a"&')),
+    board(("WorkOrderId", "W"), ("Route", "65535"), ("BatchId", "")),
+    board(("BatchId", "b" * 80), by="b"),
+    bare(
+        "BoardAvailable",
+        ("BoardId", MIXED),
+        ("BoardIdCreatedBy", '"' * 80),
+        ("FailedBoard", "0"),
+        ("ProductTypeId", '"' * 254),
+        ("FlippedBoard", "0"),
+        ("TopBarcode", '"' * 254),
+        ("BottomBarcode", '"' * 254),
+        ("Length", MOST),
+        ("Width", MOST),
+        ("Thickness", MOST),
+        ("ConveyorSpeed", MOST),
+        ("TopClearanceHeight", MOST),
+        ("BottomClearanceHeight", MOST),
+        ("Weight", MOST),
+        ("WorkOrderId", '"' * 80),
+        ("Route", "65535"),
+        ("BatchId", '"' * 80),
     ),
 ]
 

@@ -5,6 +5,7 @@ use crate::show::told;
 use number::NumberRead;
 use number::Scan;
 use number::WholeRead;
+use routes::RouteClass;
 
 fn whole(r: WholeRead) {
     let WholeRead::Is(below, size) = r else {
@@ -16,6 +17,26 @@ fn whole(r: WholeRead) {
     }
     told(b"", size as u64);
     put(b"\n");
+}
+
+// The class of a Route; a number below zero is none.
+fn class(r: WholeRead) {
+    let WholeRead::Is(below, size) = r else {
+        put(b"bad\n");
+        return;
+    };
+    if below {
+        put(b"bad\n");
+        return;
+    }
+    match routes::route_class(size as u64) {
+        RouteClass::UNDEFINED => put(b"undefined\n"),
+        RouteClass::ROUTE => put(b"a route\n"),
+        RouteClass::RETURN => put(b"return\n"),
+        RouteClass::MANUAL_REMOVAL => put(b"manual removal\n"),
+        RouteClass::RESERVED => put(b"reserved\n"),
+        _ => put(b"the line's own\n"),
+    }
 }
 
 fn positive(r: NumberRead) {
@@ -53,13 +74,14 @@ fn in_two(v: &[u8], cut: usize) {
     whole(number::int_end(all));
 }
 
-/// `int`, `number`, `guid`, `version`, and `two CUT`: an Int whose first bytes stand apart.
+/// `int`, `number`, `guid`, `version`, `Route`, and `two CUT`: an Int whose first bytes stand apart.
 pub fn worth(letter: u8, v: &[u8], cut: usize) {
     match letter {
         b'i' => whole(number::int_of(v)),
         b'n' => positive(number::number_of(v)),
         b'g' => yes(number::is_guid(v)),
         b'v' => yes(number::is_version(v)),
+        b'R' => class(number::int_of(v)),
         _ => in_two(v, cut),
     }
 }

@@ -93,18 +93,18 @@ copied-more {v} {bytes} {i} c h k =
     let n : suc i ≡ i + 1 = omega arith in
     record { are = ap (λ (b : List ℕ). set b i (getD v i 0)) (c .are) ∙ copied-set v zeros i h (let z = length-replicate {A = ℕ} 80 0 in omega arith) ∙ ap (λ (j : ℕ). take j v ++ drop j zeros) n; upto = omega arith }
 
-pub copied-all : {v bytes : Bytes} {i : ℕ} → Copied v bytes i → length v ≤ i → Kept v (record { length = length v; bytes = bytes })
-copied-all {v} {bytes} {i} c h =
+pub copied-all : {v bytes : Bytes} {i : ℕ} → Copied v bytes i → length v ≤ i → length v ≤ 80 → Kept v (record { length = length v; bytes = bytes })
+copied-all {v} {bytes} {i} c h l =
     let u = c .upto in
     let e : i ≡ length v = omega arith in
-    record { says = λ k. ap (λ (b : List ℕ). record { length = length v; bytes = b }) (c .are ∙ ap (λ (j : ℕ). take j v ++ drop j zeros) e ∙ ap (λ (b : List ℕ). b ++ drop (length v) zeros) (take-all (length v) v (omega arith))) }
+    record { says = λ k. ap (λ (b : List ℕ). record { length = length v; bytes = b }) (c .are ∙ ap (λ (j : ℕ). take j v ++ drop j zeros) e ∙ ap (λ (b : List ℕ). b ++ drop (length v) zeros) (take-all (length v) v (omega arith))); too-long = λ k. absurd (omega arith) }
 
 -- the bytes that stand at a place
 pub reads-at : {s : Bytes} (p : Span) {room scratch : Bytes} (at : TextAt) (a b : ℕ × ℕ) {part : RefT (List ℕ)} {r : Forecast} → length room ≡ 80 → TextSays s (IsWords p) room scratch (paper at) → Lies (partAt a s b scratch at) part → Kept (now part) r → Reads s p r
 reads-at {s} p {scratch = scratch} at a b {part} {r} e x y z = record { says = λ v t l h. let q = part-is-text s scratch at a b y p x l v t (omega arith) in subst (λ (b : Bytes). length b ≤ 80 → r ≡ forecastOf (a-forecast b)) q (z .says) h }
 
-pub kept-none : (v : Bytes) {r : Forecast} → 80 < length v → Kept v r
-kept-none v h = record { says = λ k. absurd (omega arith) }
+pub kept-none : (v : Bytes) {r : Forecast} → 80 < length v → r ≡ noForecast → Kept v r
+kept-none v h e = record { says = λ k. absurd (omega arith); too-long = λ k. e }
 
 -- the event of a message
 module _ {k : ℕ} {cells : List ℕ} {id : Bytes} {w : Words} (n : Names k cells w) where

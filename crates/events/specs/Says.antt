@@ -1,7 +1,7 @@
 -- What the functions of the crate promise.
 use mathlib.Core.Path.{_≡_}
 use mathlib.Core.List.{List, _++_}
-use Prim.Native.Nat.{ℕ, _+_, _≤_}
+use Prim.Native.Nat.{ℕ, _+_, _≤_, _<_}
 use lib.ListN.{length, take, drop, replicate}
 use Rattle.lane.specs.declared.Event.{Event}
 use Rattle.lane.specs.declared.ids.Forecast.{Forecast}
@@ -11,15 +11,16 @@ use Rattle.value.specs.declared.text.Span.{Span}
 use Rattle.value.specs.declared.text.Words.{Words}
 use Rattle.value.specs.declared.text.Words.the-variants.{Present as IsWords}
 use Rattle.message.specs.Messages.{messageBy}
-use Rattle.events.specs.Events.{Carried, a-forecast, forecastOf, isThere, forecastId, Carries, carriedIn}
+use Rattle.events.specs.Events.{Carried, no-forecast, a-forecast, forecastOf, isThere, forecastId, Carries, carriedIn}
 
 -- a text of s that `check` let pass: of at most 80 bytes
 abbrev pub Sound : Bytes → Words → Type 0
 Sound s w = (p : Span) → w ≡ IsWords p → (v : Bytes) × Text (take (p .len) (drop (p .start) s)) v × (p .start + p .len ≤ length s) × (length v ≤ 80)
 
--- bytes that are no more than 80, as a lane keeps them
+-- bytes as a lane keeps them: more than 80 are none
 pub record Kept (v : Bytes) (r : Forecast) : Type 0 where
   pub says : length v ≤ 80 → r ≡ forecastOf (a-forecast v)
+  pub too-long : 80 < length v → r ≡ forecastOf no-forecast
 
 -- the ForecastId that stands at the place p of s
 pub record Reads (s : Bytes) (p : Span) (r : Forecast) : Type 0 where

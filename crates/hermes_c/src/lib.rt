@@ -4,6 +4,7 @@ mod checking;
 mod lanes;
 mod reading;
 mod receiving;
+mod routing;
 mod sending;
 mod texts;
 
@@ -13,5 +14,6 @@ pub use lanes::tryphomel_lost;
 pub use lanes::tryphomel_upstream;
 pub use reading::tryphomel_read;
 pub use receiving::tryphomel_receive;
+pub use routing::tryphomel_route_class;
 pub use sending::tryphomel_send;
 pub use texts::tryphomel_text;

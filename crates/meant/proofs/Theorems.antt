@@ -56,7 +56,7 @@ written-most m texts h = sizes.message-long table (m .kind) (fieldsOf m) texts h
 pub most-each :
     (sizes.mostOf 1 ≡ 693)
     × (sizes.mostOf 2 ≡ 1609)
-    × (sizes.mostOf 3 ≡ 5933)
+    × (sizes.mostOf 3 ≡ 6438)
     × (sizes.mostOf 4 ≡ 40)
     × (sizes.mostOf 5 ≡ 542)
     × (sizes.mostOf 6 ≡ 38)

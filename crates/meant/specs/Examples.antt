@@ -64,11 +64,11 @@ notification = refl
 -- every attribute of a board, and none that may be missing
 pub board :
     Writes 3
-    (id "01234567-89ab-cdef-0123-456789abcdef" ∷ part 0 1 ∷ int 1 ∷ part 1 1 ∷ int 2 ∷ part 2 1 ∷ part 3 1 ∷ size 1000000 ∷ size 2000000 ∷ size 500000 ∷ size 4000000 ∷ size 5000000 ∷ size 6000000 ∷ size 7000000 ∷ part 4 1 ∷ [])
-    "cptbw"
-    "<Hermes><BoardAvailable BoardId=\"01234567-89ab-cdef-0123-456789abcdef\" BoardIdCreatedBy=\"c\" FailedBoard=\"1\" ProductTypeId=\"p\" FlippedBoard=\"2\" TopBarcode=\"t\" BottomBarcode=\"b\" Length=\"1\" Width=\"2\" Thickness=\"0.5\" ConveyorSpeed=\"4\" TopClearanceHeight=\"5\" BottomClearanceHeight=\"6\" Weight=\"7\" WorkOrderId=\"w\"/></Hermes>"
+    (id "01234567-89ab-cdef-0123-456789abcdef" ∷ part 0 1 ∷ int 1 ∷ part 1 1 ∷ int 2 ∷ part 2 1 ∷ part 3 1 ∷ size 1000000 ∷ size 2000000 ∷ size 500000 ∷ size 4000000 ∷ size 5000000 ∷ size 6000000 ∷ size 7000000 ∷ part 4 1 ∷ int 900 ∷ part 5 1 ∷ [])
+    "cptbwl"
+    "<Hermes><BoardAvailable BoardId=\"01234567-89ab-cdef-0123-456789abcdef\" BoardIdCreatedBy=\"c\" FailedBoard=\"1\" ProductTypeId=\"p\" FlippedBoard=\"2\" TopBarcode=\"t\" BottomBarcode=\"b\" Length=\"1\" Width=\"2\" Thickness=\"0.5\" ConveyorSpeed=\"4\" TopClearanceHeight=\"5\" BottomClearanceHeight=\"6\" Weight=\"7\" WorkOrderId=\"w\" Route=\"900\" BatchId=\"l\"/></Hermes>"
     × Writes 3
-    (id "01234567-89ab-cdef-0123-456789abcdef" ∷ part 0 1 ∷ int 0 ∷ aWords NoWords ∷ int 0 ∷ aWords NoWords ∷ aWords NoWords ∷ aMeasure NoMeasure ∷ aMeasure NoMeasure ∷ aMeasure NoMeasure ∷ aMeasure NoMeasure ∷ aMeasure NoMeasure ∷ aMeasure NoMeasure ∷ aMeasure NoMeasure ∷ aWords NoWords ∷ [])
+    (id "01234567-89ab-cdef-0123-456789abcdef" ∷ part 0 1 ∷ int 0 ∷ aWords NoWords ∷ int 0 ∷ aWords NoWords ∷ aWords NoWords ∷ aMeasure NoMeasure ∷ aMeasure NoMeasure ∷ aMeasure NoMeasure ∷ aMeasure NoMeasure ∷ aMeasure NoMeasure ∷ aMeasure NoMeasure ∷ aMeasure NoMeasure ∷ aWords NoWords ∷ aWhole NoWhole ∷ aWords NoWords ∷ [])
     "c"
     "<Hermes><BoardAvailable BoardId=\"01234567-89ab-cdef-0123-456789abcdef\" BoardIdCreatedBy=\"c\" FailedBoard=\"0\" FlippedBoard=\"0\"/></Hermes>"
 unfolding messageFrom fieldsOf table attributesOf attributeOf childrenOf childOf escape escapeByte printInt digitsOf printDecimal places behindPoint dropBack keepBefore withZeros cellsOf fieldsFrom fieldBy wordsBy wholeBy measureBy guidBy featuresBy

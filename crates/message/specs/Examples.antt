@@ -85,6 +85,8 @@ pub board-fields :
     ∷ "BottomClearanceHeight" := "6"
     ∷ "Weight" := "7"
     ∷ "WorkOrderId" := "w"
+    ∷ "Route" := "900"
+    ∷ "BatchId" := "l"
     ∷ [])
     no-trees)
     ≡ messageFrom 3
@@ -103,6 +105,8 @@ pub board-fields :
     ∷ aMeasure (IsMeasure 6000000)
     ∷ aMeasure (IsMeasure 7000000)
     ∷ aWords (at "WorkOrderId")
+    ∷ aWhole (IsWhole 900)
+    ∷ aWords (at "BatchId")
     ∷ [])
 unfolding table fieldsIn fieldFor tried judged guidOf filled may hex intOf signed sized numberOf parted unsigned decimal written short above decimals before behind trim dropFront dropBack keepBefore blank digit all nonEmpty valueFrom within
 board-fields = refl

@@ -16,7 +16,7 @@ pub const NO_ID: usize = 72;
 pub const WIDTH: usize = 24;
 
 /// The names of the features, then those of the rows. The line of a name is its number.
-pub const NAMES: [u8; 720] = *b"\
+pub const NAMES: [u8; 768] = *b"\
     FeatureBoardForecast    \
     FeatureQueryBoardInfo   \
     FeatureSendBoardInfo    \
@@ -42,6 +42,8 @@ pub const NAMES: [u8; 720] = *b"\
     BottomClearanceHeight   \
     Weight                  \
     WorkOrderId             \
+    Route                   \
+    BatchId                 \
     ForecastId              \
     TransferState           \
     Type                    \
@@ -64,7 +66,7 @@ pub const KIND_NAMES: [u8; 264] = *b"\
 
 /// The rows of all kinds, in table order. In hex: the form (0 child, 1 text, 2 non-empty text, 3 int, 4 GUID, 5 Version, 6 positive number); 01 if the
 /// attribute may be missing; the least int; the largest, or the longest text; the line and the length of the name.
-pub const NUMBERS: [u64; 49] = [
+pub const NUMBERS: [u64; 51] = [
     // MachineId
     0x1_00_0000_0050_03_09,
     // LaneId
@@ -109,30 +111,34 @@ pub const NUMBERS: [u64; 49] = [
     0x6_01_0000_0000_17_06,
     // WorkOrderId
     0x1_01_0000_0050_18_0B,
+    // Route
+    0x3_01_0000_FFFF_19_05,
+    // BatchId
+    0x1_01_0000_0050_1A_07,
     // FailedBoard
     0x3_00_0000_0002_0C_0B,
     // ForecastId
-    0x1_01_0000_0050_19_0A,
+    0x1_01_0000_0050_1B_0A,
     // BoardId
     0x4_00_0000_0000_0A_07,
     // ConveyorSpeed
     0x6_01_0000_0000_14_0D,
     // TransferState
-    0x3_00_0001_0003_1A_0D,
+    0x3_00_0001_0003_1C_0D,
     // BoardId
     0x4_00_0000_0000_0A_07,
     // TransferState
-    0x3_00_0001_0003_1A_0D,
+    0x3_00_0001_0003_1C_0D,
     // BoardId
     0x4_00_0000_0000_0A_07,
     // Type
-    0x3_01_0001_0002_1B_04,
+    0x3_01_0001_0002_1D_04,
     // Id
-    0x1_01_0000_0050_1C_02,
+    0x1_01_0000_0050_1E_02,
     // ForecastId
-    0x1_01_0000_0050_19_0A,
+    0x1_01_0000_0050_1B_0A,
     // TimeUntilAvailable
-    0x6_01_0000_0000_1D_12,
+    0x6_01_0000_0000_1F_12,
     // BoardId
     0x4_01_0000_0000_0A_07,
     // BoardIdCreatedBy
@@ -176,23 +182,23 @@ pub const KINDS: [u64; 13] = [
     // BoardAvailable
     0x00_07_0E,
     // RevokeBoardAvailable
-    0x48_16_14,
+    0x48_18_14,
     // MachineReady
-    0x48_16_0C,
+    0x48_18_0C,
     // RevokeMachineReady
-    0x48_18_12,
+    0x48_1A_12,
     // StartTransport
-    0x00_18_0E,
+    0x00_1A_0E,
     // StopTransport
-    0x03_1A_0D,
+    0x03_1C_0D,
     // TransportFinished
-    0x03_1C_11,
+    0x03_1E_11,
     // CheckAlive
-    0x48_1E_0A,
+    0x48_20_0A,
     // BoardForecast
-    0x06_20_0D,
+    0x06_22_0D,
     // the end
-    0x48_31_00,
+    0x48_33_00,
 ];
 
 /// A row of the table: its form, whether it may be missing, its limits, and the line and the length of its name.

@@ -48,6 +48,27 @@ all-laid (x ∷ l) pre rest i h =
     ∙ ap (λ (y : List ℕ). (pre ++ three) ++ (cellsOf l ++ y)) (drop-drop (length (cellsOf l)) 3 rest ∙ ap (λ (n : ℕ). drop n rest) e)
     ∙ simp append-assoc
 
+-- fields laid from the cell i on, the places counted from i
+abbrev laidPast : ℕ → ℕ → List Field → List ℕ → List ℕ
+laidPast i n [] c = c
+laidPast i n (x ∷ l) c = laidPast i (n + 1) l (laid (i + n) x c)
+
+abbrev pub laidFrom : ℕ → List Field → List ℕ → List ℕ
+laidFrom i [] c = c
+laidFrom i (x ∷ l) c = laidPast i 1 l (laid i x c)
+
+laid-past : (i n : ℕ) (l : List Field) (c : List ℕ) → allLaid (i + n) l c ≡ laidPast i n l c
+unfolding allLaid
+laid-past i n [] c = refl
+laid-past i n (x ∷ l) c =
+    let e : i + n + 1 ≡ i + (n + 1) = omega arith in
+    ap (λ (k : ℕ). allLaid k l (laid (i + n) x c)) e ∙ laid-past i (n + 1) l (laid (i + n) x c)
+
+pub laid-from : (i : ℕ) (l : List Field) (c : List ℕ) → allLaid i l c ≡ laidFrom i l c
+unfolding allLaid
+laid-from i [] c = refl
+laid-from i (x ∷ l) c = laid-past i 1 l (laid i x c)
+
 -- the message whose cells and id are those of the fields
 pub message-laid : (k : ℕ) (l : List Field) {cells : List ℕ} {id : Bytes} → cells ≡ allLaid 0 l zeros → id ≡ idAmong l → _≡_ {A = Message} (record { kind = k; cells = cells; id = id }) (messageFrom k l)
 unfolding messageFrom withZeros

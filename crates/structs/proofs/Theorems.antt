@@ -11,6 +11,7 @@ use Rattle.message.specs.Cells.{fieldBy, fieldsFrom}
 use Rattle.message.specs.Messages.{messageFrom, fieldsOf}
 use Rattle.message.specs.declared.cells.Message.{Message}
 use Rattle.structs.specs.OfKind.{only}
+use Rattle.structs.specs.BoardPart.{partFrom, partFields}
 use Rattle.structs.specs.Services.{serviceFrom, serviceIn, serviceFields}
 use Rattle.structs.specs.Notices.{noticeFrom, noticeIn, noticeFields}
 use Rattle.structs.specs.Boards.{boardFrom, boardIn, boardFields}
@@ -21,7 +22,7 @@ use Rattle.structs.specs.Transfers.{transferFrom, transferIn, transferFi
 use Rattle.structs.specs.Alive.{aliveFrom, aliveIn, aliveFields}
 use Rattle.structs.specs.declared.services.ServiceDescription.{ServiceDescription as Service}
 use Rattle.structs.specs.declared.notices.Notification.{Notification as Notice}
-use Rattle.structs.specs.declared.boards.BoardAvailable.{BoardAvailable as Board}
+use Rattle.structs.specs.declared.boards.BoardAvailable.{BoardAvailable as Available}
 use Rattle.structs.specs.declared.forecasts.BoardForecast.{BoardForecast as Forecast}
 use Rattle.structs.specs.declared.ready.MachineReady.{MachineReady as Ready}
 use Rattle.structs.specs.declared.starts.StartTransport.{StartTransport as Start}
@@ -60,11 +61,11 @@ pub notice-back : (m : Message) → m .kind ≡ Notification → fieldsOf (messa
 notice-back m e = message-back notice m e (ap (λ (k : ℕ). only (eqb k Notification) m) e)
 
 board : Shape BoardAvailable boardFrom boardFields
-unfolding table fieldsFrom fieldBy boardFrom boardFields
+unfolding table fieldsFrom fieldBy boardFrom boardFields partFrom partFields
 board = record { sorts = λ v. refl; same = λ c id. refl }
 
-pub board-kept : (b : Board) → boardFields (boardIn (messageFrom BoardAvailable (boardFields b))) ≡ bares (boardFields b)
-unfolding messageFrom boardFrom boardFields
+pub board-kept : (b : Available) → boardFields (boardIn (messageFrom BoardAvailable (boardFields b))) ≡ bares (boardFields b)
+unfolding messageFrom boardFrom boardFields partFrom partFields
 board-kept b = ap (λ (l : List Field). boardFields (boardFrom l)) (laid-fields board b)
 
 pub board-back : (m : Message) → m .kind ≡ BoardAvailable → fieldsOf (messageFrom BoardAvailable (boardFields (boardIn m))) ≡ fieldsOf m
@@ -126,11 +127,11 @@ pub alive-back : (m : Message) → m .kind ≡ CheckAlive → fieldsOf (messageF
 alive-back m e = message-back alive m e (ap (λ (k : ℕ). only (eqb k CheckAlive) m) e)
 
 forecast : Shape BoardForecast forecastFrom forecastFields
-unfolding table fieldsFrom fieldBy forecastFrom forecastFields
+unfolding table fieldsFrom fieldBy forecastFrom forecastFields partFrom partFields
 forecast = record { sorts = λ v. refl; same = λ c id. refl }
 
 pub forecast-kept : (b : Forecast) → forecastFields (forecastIn (messageFrom BoardForecast (forecastFields b))) ≡ bares (forecastFields b)
-unfolding messageFrom forecastFrom forecastFields
+unfolding messageFrom forecastFrom forecastFields partFrom partFields
 forecast-kept b = ap (λ (l : List Field). forecastFields (forecastFrom l)) (laid-fields forecast b)
 
 pub forecast-back : (m : Message) → m .kind ≡ BoardForecast → fieldsOf (messageFrom BoardForecast (forecastFields (forecastIn m))) ≡ fieldsOf m

@@ -1,53 +1,28 @@
 -- BoardAvailable: its struct and its fields.
-use mathlib.Core.List.{List, [], _∷_}
+use mathlib.Core.List.{List, [], _∷_, _++_}
+use lib.ListN.{drop}
 use Rattle.lane.specs.Names.{BoardAvailable}
-use Rattle.message.specs.Fields.{Field, aWords, aWhole, aMeasure, aGuid, theWords, theWhole, theMeasure, theId}
+use Rattle.message.specs.Fields.{Field, aWords, aWhole, aGuid, theWords, theWhole, theId}
 use Rattle.message.specs.declared.cells.Message.{Message}
+use Rattle.structs.specs.BoardPart.{partFrom, partFields}
 use Rattle.structs.specs.OfKind.{nth, ofKind}
-use Rattle.structs.specs.declared.boards.BoardAvailable.{BoardAvailable as Board}
+use Rattle.structs.specs.declared.boards.BoardAvailable.{BoardAvailable as Available}
 
--- "BoardId GUID; BoardIdCreatedBy non-empty text 80; FailedBoard 0..2; ProductTypeId text 254 opt; FlippedBoard 0..2; TopBarcode, BottomBarcode text 254
--- opt; Length, Width, Thickness, ConveyorSpeed, TopClearanceHeight, BottomClearanceHeight, Weight positive opt; WorkOrderId text 80 opt": the struct of
--- its fields; without fields all is absent
-unfoldable pub boardFrom : List Field → Board
+-- "BoardId GUID; BoardIdCreatedBy non-empty text 80", what it says of the board, "Route 0..65535 opt; BatchId text 80 opt": the struct of its fields;
+-- without fields all is absent
+unfoldable pub boardFrom : List Field → Available
 boardFrom l = record {
   id = theId (nth 0 l);
   by = theWords (nth 1 l);
-  failed = theWhole (nth 2 l);
-  product = theWords (nth 3 l);
-  flipped = theWhole (nth 4 l);
-  top = theWords (nth 5 l);
-  bottom = theWords (nth 6 l);
-  length = theMeasure (nth 7 l);
-  width = theMeasure (nth 8 l);
-  thickness = theMeasure (nth 9 l);
-  speed = theMeasure (nth 10 l);
-  above = theMeasure (nth 11 l);
-  below = theMeasure (nth 12 l);
-  weight = theMeasure (nth 13 l);
-  order = theWords (nth 14 l);
+  board = partFrom (drop 2 l);
+  route = theWhole (nth 15 l);
+  batch = theWords (nth 16 l);
 }
 
 -- of a message; all is absent if it is of another kind
-abbrev pub boardIn : Message → Board
+abbrev pub boardIn : Message → Available
 boardIn m = boardFrom (ofKind BoardAvailable m)
 
 -- its fields
-unfoldable pub boardFields : Board → List Field
-boardFields b =
-    aGuid (b .id)
-    ∷ aWords (b .by)
-    ∷ aWhole (b .failed)
-    ∷ aWords (b .product)
-    ∷ aWhole (b .flipped)
-    ∷ aWords (b .top)
-    ∷ aWords (b .bottom)
-    ∷ aMeasure (b .length)
-    ∷ aMeasure (b .width)
-    ∷ aMeasure (b .thickness)
-    ∷ aMeasure (b .speed)
-    ∷ aMeasure (b .above)
-    ∷ aMeasure (b .below)
-    ∷ aMeasure (b .weight)
-    ∷ aWords (b .order)
-    ∷ []
+unfoldable pub boardFields : Available → List Field
+boardFields b = aGuid (b .id) ∷ aWords (b .by) ∷ (partFields (b .board) ++ (aWhole (b .route) ∷ aWords (b .batch) ∷ []))

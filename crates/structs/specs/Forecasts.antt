@@ -1,8 +1,10 @@
 -- BoardForecast: its struct and its fields.
-use mathlib.Core.List.{List, [], _∷_}
+use mathlib.Core.List.{List, _∷_}
+use lib.ListN.{drop}
 use Rattle.lane.specs.Names.{BoardForecast}
-use Rattle.message.specs.Fields.{Field, aWords, aWhole, aMeasure, aGuid, theWords, theWhole, theMeasure, theId}
+use Rattle.message.specs.Fields.{Field, aWords, aMeasure, aGuid, theWords, theMeasure, theId}
 use Rattle.message.specs.declared.cells.Message.{Message}
+use Rattle.structs.specs.BoardPart.{partFrom, partFields}
 use Rattle.structs.specs.OfKind.{nth, ofKind}
 use Rattle.structs.specs.declared.forecasts.BoardForecast.{BoardForecast as Forecast}
 
@@ -14,19 +16,7 @@ forecastFrom l = record {
   until = theMeasure (nth 1 l);
   id = theId (nth 2 l);
   by = theWords (nth 3 l);
-  failed = theWhole (nth 4 l);
-  product = theWords (nth 5 l);
-  flipped = theWhole (nth 6 l);
-  top = theWords (nth 7 l);
-  bottom = theWords (nth 8 l);
-  length = theMeasure (nth 9 l);
-  width = theMeasure (nth 10 l);
-  thickness = theMeasure (nth 11 l);
-  speed = theMeasure (nth 12 l);
-  above = theMeasure (nth 13 l);
-  below = theMeasure (nth 14 l);
-  weight = theMeasure (nth 15 l);
-  order = theWords (nth 16 l);
+  board = partFrom (drop 4 l);
 }
 
 -- of a message; all is absent if it is of another kind
@@ -35,22 +25,4 @@ forecastIn m = forecastFrom (ofKind BoardForecast m)
 
 -- its fields
 unfoldable pub forecastFields : Forecast → List Field
-forecastFields b =
-    aWords (b .forecast)
-    ∷ aMeasure (b .until)
-    ∷ aGuid (b .id)
-    ∷ aWords (b .by)
-    ∷ aWhole (b .failed)
-    ∷ aWords (b .product)
-    ∷ aWhole (b .flipped)
-    ∷ aWords (b .top)
-    ∷ aWords (b .bottom)
-    ∷ aMeasure (b .length)
-    ∷ aMeasure (b .width)
-    ∷ aMeasure (b .thickness)
-    ∷ aMeasure (b .speed)
-    ∷ aMeasure (b .above)
-    ∷ aMeasure (b .below)
-    ∷ aMeasure (b .weight)
-    ∷ aWords (b .order)
-    ∷ []
+forecastFields b = aWords (b .forecast) ∷ aMeasure (b .until) ∷ aGuid (b .id) ∷ aWords (b .by) ∷ partFields (b .board)

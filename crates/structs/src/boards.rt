@@ -3,20 +3,20 @@ ghost use mathlib.Core.Path.{_≡_};
 ghost use Rattle.lane.specs.Names as kinds;
 ghost use Rattle.message.specs.Messages.{messageFrom};
 ghost use Rattle.structs.specs.Boards.{boardIn, boardFields};
+use crate::board_part::Board;
+use crate::board_part::board_at;
+use crate::board_part::put_board;
 use crate::laying::bytes_in;
 use crate::laying::put_guid;
-use crate::laying::put_measure;
 use crate::laying::put_whole;
 use crate::laying::put_words;
 use crate::making::cells_if;
 use crate::making::guid;
-use crate::making::measure;
 use crate::making::whole;
 use crate::making::words;
 use lane::Kind;
 use message::Message;
 use message::cells::NUMBERS;
-use message::values::Measure;
 use message::values::Whole;
 use value::Guid;
 use value::Words;
@@ -25,19 +25,9 @@ use value::Words;
 pub struct BoardAvailable {
     pub id: Guid,
     pub by: Words,
-    pub failed: Whole,
-    pub product: Words,
-    pub flipped: Whole,
-    pub top: Words,
-    pub bottom: Words,
-    pub length: Measure,
-    pub width: Measure,
-    pub thickness: Measure,
-    pub speed: Measure,
-    pub above: Measure,
-    pub below: Measure,
-    pub weight: Measure,
-    pub order: Words,
+    pub board: Board,
+    pub route: Whole,
+    pub batch: Words,
 }
 
 /// What a BoardAvailable says; of a message of another kind all is absent.
@@ -50,19 +40,9 @@ pub fn board_available(m: Message) -> BoardAvailable
     BoardAvailable {
         id: guid(cells, 0, id),
         by: words(cells, 1),
-        failed: whole(cells, 2),
-        product: words(cells, 3),
-        flipped: whole(cells, 4),
-        top: words(cells, 5),
-        bottom: words(cells, 6),
-        length: measure(cells, 7),
-        width: measure(cells, 8),
-        thickness: measure(cells, 9),
-        speed: measure(cells, 10),
-        above: measure(cells, 11),
-        below: measure(cells, 12),
-        weight: measure(cells, 13),
-        order: words(cells, 14),
+        board: board_at(cells, 2),
+        route: whole(cells, 15),
+        batch: words(cells, 16),
     }
 }
 
@@ -72,34 +52,14 @@ pub fn of_board_available(v: BoardAvailable) -> Message
 {
     let id = v.id;
     let by = v.by;
-    let failed = v.failed;
-    let product = v.product;
-    let flipped = v.flipped;
-    let top = v.top;
-    let bottom = v.bottom;
-    let length = v.length;
-    let width = v.width;
-    let thickness = v.thickness;
-    let speed = v.speed;
-    let above = v.above;
-    let below = v.below;
-    let weight = v.weight;
-    let order = v.order;
+    let board = v.board;
+    let route = v.route;
+    let batch = v.batch;
     let cells = put_guid([0u64; NUMBERS], 0, id);
     let cells = put_words(cells, 1, by);
-    let cells = put_whole(cells, 2, failed);
-    let cells = put_words(cells, 3, product);
-    let cells = put_whole(cells, 4, flipped);
-    let cells = put_words(cells, 5, top);
-    let cells = put_words(cells, 6, bottom);
-    let cells = put_measure(cells, 7, length);
-    let cells = put_measure(cells, 8, width);
-    let cells = put_measure(cells, 9, thickness);
-    let cells = put_measure(cells, 10, speed);
-    let cells = put_measure(cells, 11, above);
-    let cells = put_measure(cells, 12, below);
-    let cells = put_measure(cells, 13, weight);
-    let cells = put_words(cells, 14, order);
+    let cells = put_board(cells, 2, board);
+    let cells = put_whole(cells, 15, route);
+    let cells = put_words(cells, 16, batch);
     Message {
         kind: Kind::BOARD_AVAILABLE,
         cells: cells,

@@ -1,5 +1,6 @@
 // The structs of the kinds: made of a message, and laid into one. Nothing is lost either way.
 mod alive;
+mod board_part;
 mod boards;
 mod forecasts;
 mod laying;
@@ -13,6 +14,7 @@ mod transfers;
 pub use alive::CheckAlive;
 pub use alive::check_alive;
 pub use alive::of_check_alive;
+pub use board_part::Board;
 pub use boards::BoardAvailable;
 pub use boards::board_available;
 pub use boards::of_board_available;

@@ -109,6 +109,22 @@ pub forecasts :
 unfolding table refusalOf tried judged guidOf filled may hex intOf signed sized numberOf parted unsigned decimal written short above decimals before behind trim dropFront dropBack keepBefore blank digit all nonEmpty valueFrom within
 forecasts = ((refl, refl), (refl, refl), (refl, refl), (refl, refl), (refl, refl), (refl, refl), (refl, refl), (refl, refl))
 
+-- "Route an int 0 to 65535, optional; BatchId text 80, optional", behind all that a BoardAvailable must say
+abbrev routed : List Pair → Tree
+routed a = says "BoardAvailable" ("BoardId" := "01234567-89ab-cdef-0123-456789abcdef" ∷ "BoardIdCreatedBy" := "m" ∷ "FailedBoard" := "0" ∷ "FlippedBoard" := "0" ∷ a)
+
+pub routes :
+    Answers (routed []) 3 0
+    × Answers (routed ("Route" := "0" ∷ [])) 3 0
+    × Answers (routed ("Route" := "65535" ∷ "BatchId" := "" ∷ [])) 3 0
+    × Answers (routed ("Route" := "65536" ∷ [])) 3 6
+    × Answers (routed ("Route" := "x" ∷ [])) 3 6
+    × Answers (routed (record { name = text "BatchId"; value = many 80 } ∷ [])) 3 0
+    × Answers (routed (record { name = text "BatchId"; value = many 81 } ∷ [])) 3 5
+    × Answers (routed (record { name = text "BatchId"; value = many 81 } ∷ "Route" := "x" ∷ [])) 3 6
+unfolding table refusalOf tried judged guidOf filled may hex intOf signed sized trim dropFront dropBack keepBefore blank digit all nonEmpty valueFrom within
+routes = ((refl, refl), (refl, refl), (refl, refl), (refl, refl), (refl, refl), (refl, refl), (refl, refl), (refl, refl))
+
 -- the root's attributes never count as the message's
 pub root-ignored : saidOf (tree (text "Hermes") ("Type" := "9" ∷ "Timestamp" := "x" ∷ []) (tree-then (bare "CheckAlive") no-trees)) .values ≡ absent ∷ absent ∷ []
 unfolding table valuesOf tried judged

@@ -1,5 +1,6 @@
--- The attribute table of document 01, "Message | Attributes in order (opt = may be missing)", and of order 3 (BoardForecast, MachineReady's ForecastId).
-use mathlib.Core.List.{List, [], _∷_}
+-- The attribute table of document 01, "Message | Attributes in order (opt = may be missing)", of order 1 (Route, BatchId) and of order 3 (BoardForecast,
+-- MachineReady's ForecastId).
+use mathlib.Core.List.{List, [], _∷_, _++_}
 use mathlib.Core.Bool.{Bool, true, false, _||_, cond}
 use Prim.Native.Nat.{ℕ, _+_, _*_}
 use Prim.Native.String.{String}
@@ -78,12 +79,16 @@ boardRows =
     ∷ "WorkOrderId" opt words 80
     ∷ []
 
+-- "Take them in after WorkOrderId: Route an int 0 to 65535, optional; BatchId text 80, optional"
+abbrev routeRows : List Row
+routeRows = "Route" opt whole 0 65535 ∷ "BatchId" opt words 80 ∷ []
+
 unfoldable pub table : List Entry
 table =
     entry ServiceDescription "ServiceDescription"
     ("MachineId" is words 80 ∷ "LaneId" is whole 1 65535 ∷ "Version" is version ∷ "SupportedFeatures" is features ∷ [])
     ∷ entry Notification "Notification" ("NotificationCode" is whole 1 65535 ∷ "Severity" is whole 1 4 ∷ "Description" is words 254 ∷ [])
-    ∷ entry BoardAvailable "BoardAvailable" ("BoardId" is guid ∷ "BoardIdCreatedBy" is someWords 80 ∷ boardRows)
+    ∷ entry BoardAvailable "BoardAvailable" ("BoardId" is guid ∷ "BoardIdCreatedBy" is someWords 80 ∷ (boardRows ++ routeRows))
     ∷ entry RevokeBoardAvailable "RevokeBoardAvailable" []
     ∷ entry MachineReady "MachineReady" ("FailedBoard" is whole 0 2 ∷ "ForecastId" opt words 80 ∷ [])
     ∷ entry RevokeMachineReady "RevokeMachineReady" []

@@ -1,4 +1,4 @@
--- The attribute table a second time: its lines as they are printed, in document 01 and for order 3, and how they are read. `table` is what they say.
+-- The attribute table a second time: its lines as they are printed, in document 01 and for orders 1 and 3, and how they are read. `table` is what they say.
 use mathlib.Core.Path.{_≡_, refl, ap, _∙_}
 use mathlib.Core.List.{List, [], _∷_, _++_}
 use mathlib.Core.Bool.{Bool, true, false, _&&_, _||_, not, cond}
@@ -20,7 +20,7 @@ abbrev pub printed : List String
 printed =
     "1 ServiceDescription | MachineId text 80; LaneId 1..65535; Version; child SupportedFeatures"
     ∷ "2 Notification | NotificationCode 1..65535; Severity 1..4; Description text 254"
-    ∷ "3 BoardAvailable | BoardId GUID; BoardIdCreatedBy non-empty text 80; FailedBoard 0..2; ProductTypeId text 254 opt; FlippedBoard 0..2; TopBarcode, BottomBarcode text 254 opt; Length, Width, Thickness, ConveyorSpeed, TopClearanceHeight, BottomClearanceHeight, Weight positive opt; WorkOrderId text 80 opt"
+    ∷ "3 BoardAvailable | BoardId GUID; BoardIdCreatedBy non-empty text 80; FailedBoard 0..2; ProductTypeId text 254 opt; FlippedBoard 0..2; TopBarcode, BottomBarcode text 254 opt; Length, Width, Thickness, ConveyorSpeed, TopClearanceHeight, BottomClearanceHeight, Weight positive opt; WorkOrderId text 80 opt; Route 0..65535 opt; BatchId text 80 opt"
     ∷ "4 RevokeBoardAvailable, 6 RevokeMachineReady | none"
     ∷ "5 MachineReady | FailedBoard 0..2; ForecastId text 80 opt"
     ∷ "7 StartTransport | BoardId GUID; ConveyorSpeed positive opt"

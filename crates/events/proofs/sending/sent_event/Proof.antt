@@ -36,7 +36,7 @@ without-requires-2 c κs = search needs
 
 -- src/sending.rt:34:9
 returns-2 : tie.Need-returns-2
-returns-2 c = given-long (c .before .before .before .before .before .forecast-words .ensures) (c .before .before .before .w .given .0 .0) (c .before .before .before .w .given .1) (c .before .if1 .taken) (c .without2 .ensures)
+returns-2 c = given-long (c .before .before .before .before .before .forecast-words .ensures) (c .before .before .before .w .given .0 .0) (c .before .before .before .w .given .1) (let h = c .before .if1 .taken in omega arith) (c .without2 .ensures)
 
 -- src/sending.rt:37:9
 without-requires-3 : tie.Need-without-requires-3
