@@ -76,12 +76,25 @@ inline bool int_in(const std::string &v, unsigned low, unsigned high, uint64_t &
     return out >= low && out <= high;
 }
 
-// "Positive number: optional `+`, digits with at most one point, at least one digit. .." Its value is in millionths.
+// "Positive number: optional `+`, digits with at most one point, at least one digit. .."; order 2: with an exponent the limits apply to the number
+// written out. Its value is in millionths.
 inline bool positive(const std::string &v, uint64_t &out) {
-    static const std::regex form("[ \t\r\n]*\\+?([0-9]*)(?:\\.([0-9]*))?[ \t\r\n]*");
+    static const std::regex form("[ \t\r\n]*\\+?([0-9]*)(?:\\.([0-9]*))?(?:[eE]([+-]?)([0-9]+))?[ \t\r\n]*");
     std::smatch m;
     if (!std::regex_match(v, m, form) || m.length(1) + m.length(2) == 0) return false;
-    std::string whole = without_zeros(m[1]), part = m[2];
+    std::string whole = m[1], part = m[2], power = without_zeros(m[4]);
+    // no value of a message has so many digits that more zeros could be of use
+    size_t places = power.size() > 5 ? 99999 : power.empty() ? 0 : std::stoul(power);
+    if (m[3] == "-") {
+        whole.insert(0, places, '0');
+        part.insert(0, whole, whole.size() - places, places);
+        whole.resize(whole.size() - places);
+    } else {
+        part.append(places, '0');
+        whole.append(part, 0, places);
+        part.erase(0, places);
+    }
+    whole = without_zeros(whole);
     while (!part.empty() && part.back() == '0') part.pop_back();
     if (whole.size() > 7 || part.size() > 6) return false;
     part.resize(6, '0');

@@ -285,14 +285,23 @@ class Maker {
         std::string s = r.one_in(6) ? "+" : r.one_in(20) ? " " : "";
         s += r.of(ends);
         for (unsigned n = r.below(r.one_in(6) ? 9 : 4); n; n--) s += (char)('0' + r.below(10));
-        if (r.one_in(3)) return s;
+        if (r.one_in(3)) return s + exponent();
         s += '.';
         for (unsigned n = r.below(r.one_in(6) ? 8 : 4); n; n--) s += (char)('0' + r.below(10));
-        return s + r.of(ends);
+        return s + r.of(ends) + exponent();
+    }
+
+    // Mostly none; a small one, or any.
+    std::string exponent() {
+        static const char *const signs[] = {"", "+", "-", "-", "-00"}, *const some[] = {"", "18446744073709551617", "4294967298", "+1", "1.0", "1e1", "x"};
+        if (!r.one_in(3)) return "";
+        std::string s = r.one_in(2) ? "e" : "E";
+        return s + r.of(signs) + (r.one_in(8) ? r.of(some) : std::to_string(r.below(r.one_in(6) ? 30 : 9)));
     }
 
     std::string good(const Column &c) {
-        static const char *const numbers[] = {".5", "160.50", "+1.", "0000012.5", "9999999.999999", "0.0000010", "1", " 7 "};
+        static const char *const numbers[] = {".5", "160.50", "+1.", "0000012.5", "9999999.999999", "0.0000010", "1", " 7 ",
+                                              "1.6E2", ".5e+1", "1E-6", "12345678E-1"};
         static const char *const versions[] = {"1.0", "001.6", "999.999", "0.9"};
         switch (c.type) {
             case 't': return text(c.high);
@@ -307,7 +316,8 @@ class Maker {
     // A value that is bad in most places.
     std::string bad(const Column &c) {
         static const char *const values[] = {"", "-1", "-0", "+", ".", "65536", "65535", "1.0000001", "0", "10000000", "1234.5", "A", "1 2", "0.0", "+.5",
-                                             "5.", "99999999999999999999", "--1", "+-1", "1e3", "0x1", "1.2.3", "-5"};
+                                             "5.", "99999999999999999999", "--1", "+-1", "1e3", "0x1", "1.2.3", "-5",
+                                             "1E", "E5", "1E7", "1E-7", "0E5", "1EE2", "INF", "NaN", "1E+"};
         if ((c.type == 't' || c.type == 'n') && r.one_in(2)) return std::string(c.high + r.below(2), 'y');
         return c.type == 'g' && r.one_in(2) ? guid().substr(r.below(3)) + "0G" : r.of(values);
     }

@@ -35,20 +35,26 @@ not-broken Ends.Inside h = refl
 not-broken Ends.Behind h = refl
 not-broken Ends.Broken h = other 3 (0 ∷ 1 ∷ 2 ∷ []) tt h
 
-pub no-int : (s : Body) → OneOf (0 ∷ 1 ∷ 3 ∷ 4 ∷ 5 ∷ []) (tagOf body-type.the-type s) → WholeRead.Bad ≡ intBodyEnd s
+pub no-int : (s : Body) → OneOf (0 ∷ 1 ∷ 3 ∷ 4 ∷ 5 ∷ 6 ∷ 7 ∷ 8 ∷ []) (tagOf body-type.the-type s) → WholeRead.Bad ≡ intBodyEnd s
 unfolding intBodyEnd
 no-int Body.Start h = refl
 no-int (Body.Signed minus) h = refl
-no-int (Body.Whole minus n) h = other 2 (0 ∷ 1 ∷ 3 ∷ 4 ∷ 5 ∷ []) tt h
+no-int (Body.Whole minus d) h = other 2 (0 ∷ 1 ∷ 3 ∷ 4 ∷ 5 ∷ 6 ∷ 7 ∷ 8 ∷ []) tt h
 no-int Body.Point h = refl
-no-int (Body.Part n left) h = refl
+no-int (Body.Part d) h = refl
+no-int (Body.Mark d) h = refl
+no-int (Body.Turned minus d) h = refl
+no-int (Body.Power minus e d) h = refl
 no-int Body.Dead h = refl
 
-pub no-number : (s : Body) → OneOf (0 ∷ 1 ∷ 3 ∷ 5 ∷ []) (tagOf body-type.the-type s) → noNumber ≡ numberBodyEnd s
+pub no-number : (s : Body) → OneOf (0 ∷ 1 ∷ 3 ∷ 5 ∷ 6 ∷ 8 ∷ []) (tagOf body-type.the-type s) → noNumber ≡ numberBodyEnd s
 unfolding numberBodyEnd
 no-number Body.Start h = refl
 no-number (Body.Signed minus) h = refl
-no-number (Body.Whole minus n) h = other 2 (0 ∷ 1 ∷ 3 ∷ 5 ∷ []) tt h
+no-number (Body.Whole minus d) h = other 2 (0 ∷ 1 ∷ 3 ∷ 5 ∷ 6 ∷ 8 ∷ []) tt h
 no-number Body.Point h = refl
-no-number (Body.Part n left) h = other 4 (0 ∷ 1 ∷ 3 ∷ 5 ∷ []) tt h
+no-number (Body.Part d) h = other 4 (0 ∷ 1 ∷ 3 ∷ 5 ∷ 6 ∷ 8 ∷ []) tt h
+no-number (Body.Mark d) h = refl
+no-number (Body.Turned minus d) h = refl
+no-number (Body.Power minus e d) h = other 7 (0 ∷ 1 ∷ 3 ∷ 5 ∷ 6 ∷ 8 ∷ []) tt h
 no-number Body.Dead h = refl

@@ -2,20 +2,21 @@
 use mathlib.Core.Path.{_≡_, refl, sym, ap, _∙_}
 use mathlib.Core.Bool.{Bool, true, false}
 use mathlib.Core.List.{[], _∷_, _++_}
-use Prim.Native.Nat.{ℕ, zero, suc, _+_, _-_, _*_, _^_, _≤_, _<_, min}
+use Prim.Native.Nat.{ℕ, zero, suc, _+_, _-_, _*_, _/_, _%_, _^_, _≤_, _<_, min}
 use native.Mathlib.Omega.{arith}
 use native.Mathlib.Numerals.{add-one}
 use native.Mathlib.Nat.{le-mul-of-pos-right}
 use lib.Dec.{ltb}
 use lib.ListN.{length, getD, take}
 use lib.Seq.{take-suc, take-all}
-use borrow.Author.Tests.{lt-ltb, le-ltb, ne-eqb}
-use Rattle.number.specs.Bytes.{Bytes}
+use borrow.Author.Tests.{lt-ltb, le-ltb, le-leb, lt-leb, ne-eqb, eq-eqb}
+use Rattle.number.specs.Bytes.{Bytes, pick}
 use Rattle.number.specs.Whole.{CAP}
 use Rattle.number.specs.Positive.{noNumber, number}
-use Rattle.number.specs.Scan.{run, endsStep, inside, TOP, bodyStep, step, sizedAs, limited}
+use Rattle.number.specs.Scan.{run, endsStep, inside, TOP, bodyStep, step, sizedAs, limited, tenths, exactly, ended}
 use Rattle.number.specs.declared.whole.WholeRead.{WholeRead}
 use Rattle.number.specs.declared.ends.Ends.{Ends}
+use Rattle.number.specs.declared.scan.Digits.{Digits}
 use Rattle.number.specs.declared.scan.Body.{Body}
 use Rattle.number.specs.declared.scan.Scan.{Scan}
 use Rattle.number.proofs.Tests.{and-false}
@@ -50,9 +51,9 @@ unfolding step
 byte-outside s b e p i = rw (p, ap inside (sym p) ∙ i)
 
 -- a size up to the cap
-pub size-told : (minus : Bool) (n m : ℕ) → (n ≡ 0 → ⊥) → m ≡ min CAP n → WholeRead.Is minus m ≡ sizedAs minus n
+pub size-told : (minus : Bool) (d : Digits) (m : ℕ) → (d .n ≡ 0 → ⊥) → m ≡ min CAP (d .n * 10 ^ d .zeros) → WholeRead.Is minus m ≡ sizedAs minus d
 unfolding sizedAs
-size-told minus n m h e = rw (ne-eqb n 0 h, e)
+size-told minus d m h e = rw (ne-eqb (d .n) 0 h, e)
 
 -- the limits of a number x that was cut at the top
 module _ (x : ℕ) {m : ℕ} (e : m ≡ min TOP x) where
@@ -95,3 +96,47 @@ shift-top n k m left p l =
 pub shift-end : (n k m left : ℕ) → Shifting n k m left → left ≤ 0 → m ≡ n * 10 ^ k
 shift-end n k m zero p l = let e : m * 10 ^ 0 ≡ n * 10 ^ k = p .same in omega arith
 shift-end n k m (suc left) p l = absurd (omega arith)
+
+-- a quotient by a power of ten, factor by factor: what is left of it is the same
+pub record Lowering (n k m left : ℕ) : Type 0 where
+  pub some : 0 < m
+  pub same : tenths left m ≡ tenths k n
+
+pub low-start : (n k : ℕ) → (n ≡ 0 → ⊥) → Lowering n k n k
+low-start n k h = record { some = omega arith; same = refl }
+
+pub low-zero : (k : ℕ) → noNumber ≡ tenths k 0
+unfolding tenths limited
+low-zero zero = refl
+low-zero (suc k) = low-zero k
+
+pub low-more : (n k m left : ℕ) → Lowering n k m left → 0 < left → m % 10 ≡ 0 → Lowering n k (m / 10) (left - 1)
+unfolding tenths
+low-more n k m zero p l e = absurd (omega arith)
+low-more n k m (suc left) p l e =
+    let one : suc left - 1 ≡ left = omega arith in
+    let s = p .some in
+    record { some = omega arith; same = ap (λ (j : ℕ). tenths j (m / 10)) one ∙ ap (λ (t : Bool). pick t (tenths left (m / 10)) noNumber) (sym (eq-eqb (m % 10) 0 e)) ∙ p .same }
+
+pub low-over : (n k m left : ℕ) → Lowering n k m left → 0 < left → (m % 10 ≡ 0 → ⊥) → noNumber ≡ tenths k n
+unfolding tenths
+low-over n k m zero p l e = absurd (omega arith)
+low-over n k m (suc left) p l e = ap (λ (t : Bool). pick t (tenths left (m / 10)) noNumber) (sym (ne-eqb (m % 10) 0 e)) ∙ p .same
+
+pub low-end : (n k m left : ℕ) → Lowering n k m left → left ≤ 0 → limited (m * 10 ^ 0) ≡ tenths k n
+unfolding tenths
+low-end n k m zero p l = ap limited (omega arith) ∙ p .same
+low-end n k m (suc left) p l = absurd (omega arith)
+
+-- n times or by a power of ten
+pub scaled-top : (n up down : ℕ) → TOP ≤ n → noNumber ≡ ended n up down
+unfolding ended
+scaled-top n up down h = rw (le-ltb n TOP h)
+
+pub scaled-up : (n up down : ℕ) → n < TOP → down ≤ up → limited (n * 10 ^ (up - down)) ≡ ended n up down
+unfolding ended exactly
+scaled-up n up down h l = rw (lt-ltb n TOP h, le-leb down up l)
+
+pub scaled-down : (n up down : ℕ) → n < TOP → up < down → tenths (down - up) n ≡ ended n up down
+unfolding ended exactly
+scaled-down n up down h l = rw (lt-ltb n TOP h, lt-leb down up l)

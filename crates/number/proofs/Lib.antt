@@ -1,7 +1,10 @@
 pub mod Tests
 pub mod Trim
-pub mod IntLaws
 pub mod Powers
+pub mod TenLaws
+pub mod DigitLaws
+pub mod DecimalLaws
+pub mod IntLaws
 pub mod NumberLaws
 pub mod GuidLaws
 pub mod VersionLaws

@@ -1,29 +1,25 @@
--- `number-exact`: the steps say of a positive number what the definition says. `tail k n g` is the answer behind the point, with k places
--- left and n written so far; it is shown equal to the steps (induction on the bytes left), and to the definition (induction on the digits).
+-- `number-exact`: the steps say of a positive number what the definition says. By induction on the bytes left: behind the mark of an exponent,
+-- behind the point, behind digits, behind a sign. q is the number that the digits so far write (`Holds`).
 use mathlib.Core.Path.{_≡_, refl, sym, ap, _∙_}
 use mathlib.Core.Bool.{Bool, true, false}
 use mathlib.Core.List.{[], _∷_, _++_}
 use Prim.Native.Nat.{ℕ, zero, suc, _+_, _-_, _*_, _^_, _≤_, _<_, min}
 use Prim.Native.Char.{code}
 use native.Mathlib.Omega.{arith}
-use native.Mathlib.Nat.{add-mul, le-mul-of-pos-right, mul-lt-mul-of-pos-right, mul-assoc}
-use lib.Pow.{pow-add}
-use lib.Dec.{eqb, leb, ltb, leb·suc-suc, leb·suc-zero, leb·zero}
+use mathlib.Core.Logic.{_↔_}
+use lib.Dec.{eqb, leb, ltb}
 use lib.ListN.{length}
-use borrow.Author.Tests.{eqb-true, lt-ltb, le-ltb, ltb-true, ltb-false, leb-true}
-use Rattle.number.specs.Bytes.{Bytes, pick, and, digit, zeroDigit, figure, nonEmpty, all, trim, dropFront, dropBack, keepBefore, valueFrom, value, before, behind}
-use Rattle.number.specs.Positive.{Number, noNumber, number, written, short, millionths, above, decimal, unsigned, parted, numberOf, numberRead, NumberRange}
-use Rattle.number.specs.Scan.{TOP, run, joined, wholeDigit, partDigit, signStep, wholeStep, firstStep, bodyStep, limited, unsignedEnd, numberBodyEnd, numberEnd, NumberExact}
+use borrow.Author.Tests.{eqb-true, eqb-false, ne-eqb}
+use Rattle.number.specs.Bytes.{Bytes, pick, and, or, blank, digit, figure, nonEmpty, all, trim, dropFront, dropBack, keepBefore, valueFrom, value, before, behind}
+use Rattle.number.specs.Positive.{Number, noNumber, number, written, decimal, unsigned, parted, mark, mantissa, power, powered, powerDigits, below, powerWritten, right, left, out, decimalOf, numberOf, numberRead, NumberRange}
+use Rattle.number.specs.Scan.{TENTH, FAR, SLICE, run, joined, zerosMore, withDigit, noDigits, partDigit, partStep, signStep, wholeStep, firstStep, powerMore, powerDigit, markStep, bodyStep, exactly, powerEnd, wholeEnd, numberBodyEnd, numberEnd, NumberExact}
+use Rattle.number.specs.declared.scan.Digits.{Digits}
 use Rattle.number.specs.declared.scan.Body.{Body}
-use Rattle.number.proofs.Tests.{cases, never, and-left, and-right, and-false, joined-more}
-use Rattle.number.proofs.Trim.{solid, apart, trimmed, digits-solid, rest-blank, plus-solid, point-solid, digit-solid}
-use Rattle.number.proofs.Powers.{ten-pos, shift, in-front, value-lt, few}
-
--- the answer behind the point
-unfoldable tail : ℕ → ℕ → Bytes → Number
-tail k n [] = limited (n * 10 ^ k)
-tail zero n (b ∷ g) = pick (digit b) (pick (zeroDigit b) (tail zero n g) noNumber) noNumber
-tail (suc k) n (b ∷ g) = pick (digit b) (tail k (10 * n + figure b) g) noNumber
+use Rattle.number.proofs.Tests.{cases, never, and-left, and-right, and-false, digit-low, digit-high, point-no-digit}
+use Rattle.number.proofs.Trim.{solid, apart, trimmed, digits-solid, rest-blank, plus-solid, minus-solid, point-solid, digit-solid}
+use Rattle.number.proofs.TenLaws.{exactly-to, exactly-from}
+use Rattle.number.proofs.DigitLaws.{Holds, holds-none, holds-more, answer, holds-answer}
+use Rattle.number.proofs.DecimalLaws.{value-append, decimal-exact, right-exact, left-exact, decimal-range}
 
 -- the answer of the steps from a state
 abbrev ended : Body → Bytes → Number
@@ -34,178 +30,247 @@ unfolding run bodyStep numberBodyEnd
 dead [] = refl
 dead (b ∷ t) = dead t
 
--- a number that was cut at the top is none, as it was
-limited-big : (k m : ℕ) → TOP ≤ m → limited (m * 10 ^ k) ≡ noNumber
-unfolding limited
-limited-big k m h = let l : m ≤ m * 10 ^ k = le-mul-of-pos-right m (ten-pos k) in rw (le-ltb (m * 10 ^ k) TOP (omega arith), and-false (ltb 0 (m * 10 ^ k)))
+-- a digit is no point and no mark
+pub digit-no-mark : (b : ℕ) → digit b ≡ true → mark b ≡ false
+digit-no-mark b d = let h = digit-high b d in rw (ne-eqb b 101 (λ e. omega arith), ne-eqb b 69 (λ e. omega arith))
 
-limited-cut : (k n : ℕ) → limited (min TOP n * 10 ^ k) ≡ limited (n * 10 ^ k)
-limited-cut k n =
-    cases (ltb n TOP) (λ h. ap (λ (m : ℕ). limited (m * 10 ^ k)) (let l : n < TOP = ltb-true n TOP h in omega arith))
-    (λ h. let l : TOP ≤ n = ltb-false n TOP h in limited-big k (min TOP n) (omega arith) ∙ sym (limited-big k n l))
+digit-no-point : (b : ℕ) → digit b ≡ true → eqb b (code ".") ≡ false
+digit-no-point b d = let h = digit-low b d in ne-eqb b 46 (λ e. omega arith)
 
--- the steps behind the point, with k places left
-after : (k n : ℕ) (g : Bytes) → ended (Body.Part (min TOP n) k) g ≡ tail k n g
-unfolding run bodyStep numberBodyEnd partDigit tail
-after k n [] = limited-cut k n
-after zero n (b ∷ g) =
-    cases (digit b) (λ d. cases (zeroDigit b) (λ z. rw (d, z) (after zero n g)) (λ z. rw (d, z) (dead g))) (λ d. rw d (dead g))
-after (suc k) n (b ∷ g) =
-    let one : suc k - 1 ≡ k = omega arith in
-    cases (digit b) (λ d. rw (d, lt-ltb 0 (suc k) (omega arith), joined-more n b, one) (after k (10 * n + figure b) g)) (λ d. rw d (dead g))
+point-no-mark : (b : ℕ) → eqb b (code ".") ≡ true → mark b ≡ false
+point-no-mark b p = rw (eqb-true b (code ".") p)
 
--- the steps behind digits before the point, which write n
-whole : (n : ℕ) (u : Bytes) → ended (Body.Whole false (min TOP n)) u ≡ pick (all digit (before u)) (tail 6 (valueFrom n (before u)) (behind u)) noNumber
-unfolding run bodyStep numberBodyEnd unsignedEnd wholeStep wholeDigit tail all before behind valueFrom
-whole n [] = limited-cut 6 n
-whole n (b ∷ u) =
-    cases (eqb b (code ".")) (λ p. rw p (after 6 n u))
-    (λ p. cases (digit b) (λ d. rw (p, d, joined-more n b) (whole (10 * n + figure b) u)) (λ d. rw (p, d) (dead u)))
+-- digits of a scan that write q, with room for k more of them
+record Room (q k : ℕ) (d : Digits) : Type 0 where
+  holds : Holds q (d .n) (d .zeros)
+  zeros : d .zeros + (k + 19) ≤ FAR
+  places : d .places + (k + 19) ≤ FAR
+
+-- the exponent x behind digits that write q, p of them behind the point
+abbrev exponent : ℕ → ℕ → Bytes → Number
+exponent q p x = pick (powerWritten x) (answer (below x) (value (powerDigits x)) q p) noNumber
+
+-- behind digits of an exponent, which write e
+in-power : (minus : Bool) (e q k : ℕ) (d : Digits) (x : Bytes) → Room q k d → ended (Body.Power minus (min FAR e) d) x ≡ pick (all digit x) (answer minus (valueFrom e x) q (d .places)) noNumber
+unfolding run bodyStep numberBodyEnd powerDigit all valueFrom
+in-power minus e q k d [] r = let a = r .zeros in let b = r .places in holds-answer minus e q d (r .holds) (omega arith) (omega arith)
+in-power minus e q k d (b ∷ x) r =
+    let m : min FAR (10 * min FAR e + figure b) ≡ min FAR (10 * e + figure b) = omega arith in
+    cases (digit b) (λ t. rw (t, m) (in-power minus (10 * e + figure b) q k d x r)) (λ t. rw t (dead x))
+
+-- behind its sign
+in-sign : (minus : Bool) (q k : ℕ) (d : Digits) (x : Bytes) → Room q k d → ended (Body.Turned minus d) x ≡ pick (and (nonEmpty x) (all digit x)) (answer minus (value x) q (d .places)) noNumber
+unfolding run bodyStep numberBodyEnd powerDigit all nonEmpty valueFrom
+in-sign minus q k d [] r = refl
+in-sign minus q k d (b ∷ x) r = cases (digit b) (λ t. rw t (in-power minus (10 * 0 + figure b) q k d x r)) (λ t. rw t (dead x))
+
+-- behind its mark
+in-mark : (q k : ℕ) (d : Digits) (x : Bytes) → Room q k d → ended (Body.Mark d) x ≡ exponent q (d .places) x
+unfolding run bodyStep numberBodyEnd markStep nonEmpty
+in-mark q k d [] r = refl
+in-mark q k d (b ∷ x) r =
+    cases (eqb b (code "-"))
+    (λ m. let p : eqb b (code "+") ≡ false = rw (eqb-true b (code "-") m) in rw (m, p) (in-sign true q k d x r))
+    (λ m. cases (eqb b (code "+")) (λ p. rw (m, p) (in-sign false q k d x r)) (λ p. rw (m, p) (in-sign false q k d (b ∷ x) r)))
+
+-- the digits g behind the point, and an exponent x or none
+abbrev behindPoint : ℕ → ℕ → Bytes → Bool → Bytes → Number
+behindPoint q p g has x = pick (all digit g) (pick has (exponent (valueFrom q g) (p + length g) x) (exactly (valueFrom q g) 6 (p + length g))) noNumber
+
+-- one place more
+one-place : (q p : ℕ) (g : Bytes) (has : Bool) (x : Bytes) → pick has (exponent q (p + 1 + length g) x) (exactly q 6 (p + 1 + length g)) ≡ pick has (exponent q (p + suc (length g)) x) (exactly q 6 (p + suc (length g)))
+one-place q p g has x = ap (λ (n : ℕ). pick has (exponent q n x) (exactly q 6 n)) (omega arith)
+
+-- one digit more
+more : (q k : ℕ) (d : Digits) (places b : ℕ) → digit b ≡ true → places + (k + 19) ≤ FAR → Room q (suc k) d → Room (10 * q + figure b) k (withDigit d places b)
+unfolding zerosMore
+more q k d places b t l r =
+    let a = r .zeros in
+    record { holds = holds-more b t (omega arith) (r .holds); zeros = few; places = l }
+  where
+    few : zerosMore (d .n) (d .zeros) + (k + 19) ≤ FAR
+    few = let a = r .zeros in cases (ltb (d .n) TENTH) (λ z. rw z (omega arith)) (λ z. rw z (omega arith))
+
+in-part : (q : ℕ) (d : Digits) (u : Bytes) → Room q (length u) d → ended (Body.Part d) u ≡ behindPoint q (d .places) (mantissa u) (powered u) (power u)
+unfolding run bodyStep numberBodyEnd partStep partDigit all valueFrom
+in-part q d [] r =
+    let a = r .zeros in
+    let b = r .places in
+    holds-answer false 0 q d (r .holds) (omega arith) (omega arith) ∙ ap (λ (n : ℕ). exactly q 6 n) (omega arith)
+in-part q d (b ∷ u) r =
+    cases (mark b)
+    (λ m. rw m (in-mark q (suc (length u)) d u r ∙ ap (λ (n : ℕ). exponent q n u) (omega arith)))
+    (λ m.
+    cases (digit b)
+    (λ t.
+    let l = r .places in
+    let p : min FAR (d .places + 1) ≡ d .places + 1 = omega arith in
+    rw (m, t, p)
+    (in-part (10 * q + figure b) (withDigit d (d .places + 1) b) u (more q (length u) d (d .places + 1) b t (omega arith) r)
+    ∙ ap (λ (x : Number). pick (all digit (mantissa u)) x noNumber) (one-place (valueFrom (10 * q + figure b) (mantissa u)) (d .places) (mantissa u) (powered u) (power u))))
+    (λ t. rw (m, t) (dead u)))
+
+-- digits f before the point, g behind it
+abbrev total : ℕ → Bytes → Bytes → Bool → Bytes → Number
+total q f g has x = pick (all digit f) (behindPoint (valueFrom q f) 0 g has x) noNumber
+
+zero-places : (q : ℕ) (g : Bytes) (has : Bool) (x : Bytes) (z : ℕ) → z ≡ 0 → behindPoint q z g has x ≡ behindPoint q 0 g has x
+zero-places q g has x z e = ap (λ (n : ℕ). behindPoint q n g has x) e
+
+in-whole : (q : ℕ) (d : Digits) (u : Bytes) → d .places ≡ 0 → Room q (length u) d → ended (Body.Whole false d) u ≡ total q (before (mantissa u)) (behind (mantissa u)) (powered u) (power u)
+unfolding run bodyStep numberBodyEnd wholeEnd wholeStep all before behind valueFrom
+in-whole q d [] z r =
+    let a = r .zeros in
+    let b = r .places in
+    holds-answer false 0 q d (r .holds) (omega arith) (omega arith) ∙ ap (λ (n : ℕ). exactly q 6 n) (omega arith)
+in-whole q d (b ∷ u) z r =
+    cases (digit b)
+    (λ t.
+    let l = r .places in
+    rw (digit-no-mark b t, digit-no-point b t, t) (in-whole (10 * q + figure b) (withDigit d 0 b) u refl (more q (length u) d 0 b t (omega arith) r)))
+    (λ t.
+    cases (eqb b (code "."))
+    (λ p. rw (t, point-no-mark b p, p) (in-part q d u (less r) ∙ zero-places q (mantissa u) (powered u) (power u) (d .places) z))
+    (λ p. cases (mark b)
+    (λ m. rw (m, p, t) (in-mark q (suc (length u)) d u r ∙ ap (λ (n : ℕ). exponent q n u) (omega arith)))
+    (λ m. rw (m, p, t) (dead u))))
+  where
+    less : {d : Digits} → Room q (suc (length u)) d → Room q (length u) d
+    less r = let a = r .zeros in let b = r .places in record { holds = r .holds; zeros = omega arith; places = omega arith }
+
+-- bytes that are no digits, and none at all
+and-both : (a b c : Bool) → and a b ≡ false → and a (and b c) ≡ false
+and-both true true c h = never refl h
+and-both true false c h = refl
+and-both false b c h = refl
+
+not-digits : (f g : Bytes) → and (all digit f) (all digit g) ≡ false → decimal f g ≡ noNumber
+unfolding decimal written
+not-digits f g h = rw (and-both (all digit f) (all digit g) (nonEmpty (f ++ g)) h)
+
+no-bytes : (f g : Bytes) → nonEmpty (f ++ g) ≡ false → decimal f g ≡ noNumber
+unfolding decimal written
+no-bytes f g h = rw (h, and-false (all digit g), and-false (all digit f))
+
+-- what the definition says of digits, with an exponent or without
+with-power : (f g x : Bytes) → nonEmpty (f ++ g) ≡ true → total 0 f g true x ≡ out f g x
+unfolding written
+with-power f g x s =
+    cases (all digit f)
+    (λ a. cases (all digit g)
+    (λ b. rw (a, b, s) (ap (λ (y : Number). pick (powerWritten x) y noNumber) (either a b (below x))))
+    (λ b. rw (a, b)))
+    (λ a. rw a)
+  where
+    e : ℕ
+    e = value (powerDigits x)
+
+    q : valueFrom (value f) g ≡ value (f ++ g)
+    q = sym (value-append 0 f g)
+
+    either : all digit f ≡ true → all digit g ≡ true → (t : Bool) → answer t e (valueFrom (value f) g) (0 + length g) ≡ pick t (left e f g) (right e f g)
+    either a b true = ap (λ (n : ℕ). exactly n 6 (0 + length g + e)) q ∙ ap (λ (n : ℕ). exactly (value (f ++ g)) 6 n) (omega arith) ∙ sym (left-exact e f g a b s)
+    either a b false = ap (λ (n : ℕ). exactly n (6 + e) (0 + length g)) q ∙ ap (λ (n : ℕ). exactly (value (f ++ g)) (6 + e) n) (omega arith) ∙ sym (right-exact e f g a b s)
+
+without-power : (f g x : Bytes) → nonEmpty (f ++ g) ≡ true → total 0 f g false x ≡ decimal f g
+without-power f g x s =
+    cases (all digit f)
+    (λ a. cases (all digit g)
+    (λ b. rw (a, b) (ap (λ (n : ℕ). exactly n 6 (0 + length g)) (sym (value-append 0 f g)) ∙ ap (λ (n : ℕ). exactly (value (f ++ g)) 6 n) (omega arith) ∙ sym (decimal-exact f g a b s)))
+    (λ b. rw (a, b) (sym (not-digits f g (rw (a, b))))))
+    (λ a. rw a (sym (not-digits f g (rw a))))
+
+no-power : (s : Bytes) → powered s ≡ false → mantissa s ≡ s
+no-power [] h = refl
+no-power (b ∷ s) h = cases (mark b) (λ m. never refl (rw m at h)) (λ m. rw m (ap (λ (y : Bytes). b ∷ y) (no-power s (rw m at h))))
+
+defined : (s : Bytes) → nonEmpty (before (mantissa s) ++ behind (mantissa s)) ≡ true → total 0 (before (mantissa s)) (behind (mantissa s)) (powered s) (power s) ≡ decimalOf s
+unfolding parted
+defined s h =
+    cases (powered s)
+    (λ p. rw p (with-power (before (mantissa s)) (behind (mantissa s)) (power s) h))
+    (λ p. rw p (without-power (before (mantissa s)) (behind (mantissa s)) (power s) h ∙ ap (λ (y : Bytes). decimal (before y) (behind y)) (no-power s p)))
+
+-- no digit at all
+none-written : (s : Bytes) → nonEmpty (before (mantissa s) ++ behind (mantissa s)) ≡ false → decimalOf s ≡ noNumber
+unfolding parted written
+none-written s h =
+    cases (powered s)
+    (λ p. rw (p, h, and-false (all digit (behind (mantissa s))), and-false (all digit (before (mantissa s)))))
+    (λ p. rw p (ap (λ (y : Bytes). decimal (before y) (behind y)) (sym (no-power s p)) ∙ no-bytes (before (mantissa s)) (behind (mantissa s)) h))
+
+-- the first digit
+first-room : (u : Bytes) (places b : ℕ) → places ≤ 1 → digit b ≡ true → length (b ∷ u) < SLICE → Room (10 * 0 + figure b) (length u) (withDigit noDigits places b)
+first-room u places b p t l = more 0 (length u) noDigits places b t (omega arith) (record { holds = holds-none; zeros = omega arith; places = omega arith })
+
+from-point : (u : Bytes) → length u < SLICE → ended Body.Point u ≡ decimalOf (code "." ∷ u)
+unfolding run bodyStep numberBodyEnd partDigit all nonEmpty before behind valueFrom
+from-point [] l = sym (none-written (code "." ∷ []) refl)
+from-point (b ∷ u) l =
+    cases (mark b)
+    (λ m. rw (mark-no-digit b m) (dead u) ∙ sym (none-written (code "." ∷ b ∷ u) (rw m)))
+    (λ m.
+    cases (digit b)
+    (λ t. rw t (in-part (10 * 0 + figure b) (withDigit noDigits 1 b) u (first-room u 1 b (omega arith) t l)) ∙ first m t ∙ defined (code "." ∷ b ∷ u) (rw m))
+    (λ t. rw t (dead u) ∙ none m t ∙ defined (code "." ∷ b ∷ u) (rw m)))
+  where
+    mark-no-digit : (b : ℕ) → mark b ≡ true → digit b ≡ false
+    mark-no-digit b m = cases (digit b) (λ t. never m (digit-no-mark b t)) (λ t. t)
+
+    first : mark b ≡ false → digit b ≡ true → behindPoint (10 * 0 + figure b) 1 (mantissa u) (powered u) (power u) ≡ total 0 (before (mantissa (code "." ∷ b ∷ u))) (behind (mantissa (code "." ∷ b ∷ u))) (powered (code "." ∷ b ∷ u)) (power (code "." ∷ b ∷ u))
+    first m t = rw (m, t) (ap (λ (x : Number). pick (all digit (mantissa u)) x noNumber) (one-place (valueFrom (10 * 0 + figure b) (mantissa u)) 0 (mantissa u) (powered u) (power u)))
+
+    none : mark b ≡ false → digit b ≡ false → noNumber ≡ total 0 (before (mantissa (code "." ∷ b ∷ u))) (behind (mantissa (code "." ∷ b ∷ u))) (powered (code "." ∷ b ∷ u)) (power (code "." ∷ b ∷ u))
+    none m t = rw (m, t)
+
+from-plus : (u : Bytes) → length u < SLICE → ended (Body.Signed false) u ≡ decimalOf u
+unfolding run bodyStep numberBodyEnd signStep all nonEmpty before behind valueFrom
+from-plus [] l = sym (none-written [] refl)
+from-plus (b ∷ u) l =
+    cases (digit b)
+    (λ t.
+    rw t (in-whole (10 * 0 + figure b) (withDigit noDigits 0 b) u refl (first-room u 0 b (omega arith) t l))
+    ∙ digits t
+    ∙ defined (b ∷ u) (rw (digit-no-mark b t, digit-no-point b t)))
+    (λ t.
+    cases (eqb b (code "."))
+    (λ p. rw (t, p) (from-point u (omega arith)) ∙ ap (λ (c : ℕ). decimalOf (c ∷ u)) (sym (eqb-true b (code ".") p)))
+    (λ p. rw (t, p) (dead u) ∙ other t p))
+  where
+    digits : digit b ≡ true → total (10 * 0 + figure b) (before (mantissa u)) (behind (mantissa u)) (powered u) (power u) ≡ total 0 (before (mantissa (b ∷ u))) (behind (mantissa (b ∷ u))) (powered (b ∷ u)) (power (b ∷ u))
+    digits t = rw (digit-no-mark b t, digit-no-point b t, t)
+
+    other : digit b ≡ false → eqb b (code ".") ≡ false → noNumber ≡ decimalOf (b ∷ u)
+    other t p = cases (mark b) (λ m. sym (none-written (b ∷ u) (rw m))) (λ m. nothing m ∙ defined (b ∷ u) (rw (m, p)))
+      where
+        nothing : mark b ≡ false → noNumber ≡ total 0 (before (mantissa (b ∷ u))) (behind (mantissa (b ∷ u))) (powered (b ∷ u)) (power (b ∷ u))
+        nothing m = rw (m, p, t)
 
 -- behind a minus it is none
-below : (n : ℕ) (u : Bytes) → ended (Body.Whole true n) u ≡ noNumber
-unfolding run bodyStep numberBodyEnd unsignedEnd wholeStep wholeDigit
-below n [] = refl
-below n (b ∷ u) =
-    cases (eqb b (code ".")) (λ p. rw p (dead u)) (λ p. cases (digit b) (λ d. rw (p, d) (below (joined n b) u)) (λ d. rw (p, d) (dead u)))
+in-minus : (d : Digits) (u : Bytes) → ended (Body.Whole true d) u ≡ noNumber
+unfolding run bodyStep numberBodyEnd wholeEnd wholeStep
+in-minus d [] = refl
+in-minus d (b ∷ u) = cases (digit b) (λ t. rw t (in-minus (withDigit d 0 b) u)) (λ t. rw t (dead u))
 
 from-minus : (u : Bytes) → ended (Body.Signed true) u ≡ noNumber
-unfolding run bodyStep numberBodyEnd signStep wholeDigit
+unfolding run bodyStep numberBodyEnd signStep
 from-minus [] = refl
-from-minus (b ∷ u) =
-    cases (eqb b (code ".")) (λ p. rw p (dead u)) (λ p. cases (digit b) (λ d. rw (p, d) (below (joined 0 b) u)) (λ d. rw (p, d) (dead u)))
+from-minus (b ∷ u) = cases (digit b) (λ t. rw t (in-minus (withDigit noDigits 0 b) u)) (λ t. rw t (dead u))
 
-minus-parted : (b : ℕ) (u : Bytes) → eqb b (code "-") ≡ true → noNumber ≡ parted (unsigned (b ∷ u))
+minus-none : (b : ℕ) (u : Bytes) → eqb b (code "-") ≡ true → noNumber ≡ decimalOf (unsigned (b ∷ u))
 unfolding unsigned parted decimal written before behind all digit
-minus-parted b u h = rw (eqb-true b (code "-") h)
-
--- what is left of the digits behind the point, and its value with k places
-abbrev cut : Bytes → Bytes
-cut g = dropBack zeroDigit g
-
-abbrev part : ℕ → Bytes → ℕ
-part k x = value x * 10 ^ (k - length x)
-
-abbrev fits : ℕ → ℕ → Bytes → Bool → Number
-fits k n x ok = pick (and ok (leb (length x) k)) (limited (n * 10 ^ k + part k x)) noNumber
-
-carry : (k n d v l : ℕ) → l ≤ k → (10 * n + d) * 10 ^ k + v * 10 ^ (k - l) ≡ n * 10 ^ suc k + (d * 10 ^ l + v) * 10 ^ (k - l)
-carry k n d v l h =
-    let front : (10 * n + d) * 10 ^ k ≡ (10 * n) * 10 ^ k + d * 10 ^ k = add-mul (10 * n) d (10 ^ k) in
-    let up : n * 10 ^ suc k ≡ (10 * n) * 10 ^ k = shift n k in
-    let spread : (d * 10 ^ l + v) * 10 ^ (k - l) ≡ (d * 10 ^ l) * 10 ^ (k - l) + v * 10 ^ (k - l) = add-mul (d * 10 ^ l) v (10 ^ (k - l)) in
-    let joined : 10 ^ l * 10 ^ (k - l) ≡ 10 ^ k = sym (pow-add 10 l (k - l)) ∙ ap (λ (y : ℕ). 10 ^ y) (omega arith) in
-    let moved : (d * 10 ^ l) * 10 ^ (k - l) ≡ d * 10 ^ k = mul-assoc d (10 ^ l) (10 ^ (k - l)) ∙ ap (λ (y : ℕ). d * y) joined in
-    omega arith
-
--- a digit in front of what is left
-cons-part : (k n b : ℕ) (x : Bytes) → length x ≤ k → (10 * n + figure b) * 10 ^ k + part k x ≡ n * 10 ^ suc k + part (suc k) (b ∷ x)
-unfolding valueFrom
-cons-part k n b x l =
-    carry k n (figure b) (value x) (length x) l
-    ∙ ap (λ (y : ℕ). n * 10 ^ suc k + y * 10 ^ (k - length x))
-    (sym (in-front (figure b) x) ∙ ap (λ (y : ℕ). valueFrom y x) (omega arith))
-    ∙ ap (λ (y : ℕ). n * 10 ^ suc k + value (b ∷ x) * 10 ^ y) (omega arith)
-
--- one more place: what is left is a digit longer, or nothing is left and the digit is zero
-cons-fits : (k n b : ℕ) (x : Bytes) (ok : Bool) → fits k (10 * n + figure b) x ok ≡ fits (suc k) n (b ∷ x) ok
-cons-fits k n b x false = refl
-cons-fits k n b x true =
-    rw (leb·suc-suc (length x) k)
-    (cases (leb (length x) k) (λ l. rw l (ap limited (cons-part k n b x (leb-true (length x) k l)))) (λ l. rw l))
-
-nil-fits : (k n b : ℕ) (ok : Bool) → zeroDigit b ≡ true → fits k (10 * n + figure b) [] ok ≡ fits (suc k) n [] ok
-unfolding valueFrom
-nil-fits k n b false z = refl
-nil-fits k n b true z =
-    rw (leb·zero k, leb·zero (suc k), eqb-true b 48 z)
-    (ap limited (let up : n * 10 ^ suc k ≡ (10 * n) * 10 ^ k = shift n k in omega arith))
-
-more-place : (k n b : ℕ) (x : Bytes) (ok : Bool) → fits k (10 * n + figure b) x ok ≡ fits (suc k) n (keepBefore zeroDigit b x) ok
-unfolding keepBefore
-more-place k n b [] ok = cases (zeroDigit b) (λ z. rw z (nil-fits k n b ok z)) (λ z. rw z (cons-fits k n b [] ok))
-more-place k n b (c ∷ x) ok = cons-fits k n b (c ∷ x) ok
-
--- no place left: a digit above zero, or anything left behind, is too much
-no-place : (n b : ℕ) (x : Bytes) (ok : Bool) → pick (zeroDigit b) (fits 0 n x ok) noNumber ≡ fits 0 n (keepBefore zeroDigit b x) ok
-unfolding keepBefore
-no-place n b [] ok = cases (zeroDigit b) (λ z. rw z) (λ z. rw (z, leb·suc-zero 0, and-false ok))
-no-place n b (c ∷ x) ok = rw (leb·suc-zero (length x), leb·suc-zero (suc (length x)), and-false ok) (pick-same (zeroDigit b))
+minus-none b u h = rw (eqb-true b (code "-") h) (go (powered u))
   where
-    pick-same : (t : Bool) → pick t noNumber noNumber ≡ noNumber
-    pick-same true = refl
-    pick-same false = refl
+    go : (t : Bool) → noNumber ≡ pick t noNumber noNumber
+    go true = refl
+    go false = refl
 
--- the answer behind the point is the definition's
-tail-fits : (k n : ℕ) (g : Bytes) → tail k n g ≡ fits k n (cut g) (all digit g)
-unfolding tail all dropBack valueFrom
-tail-fits k n [] = rw (leb·zero k) (ap limited (omega arith))
-tail-fits zero n (b ∷ g) =
-    cases (digit b) (λ d. rw d (ap (λ (x : Number). pick (zeroDigit b) x noNumber) (tail-fits zero n g) ∙ no-place n b (cut g) (all digit g))) (λ d. rw d)
-tail-fits (suc k) n (b ∷ g) =
-    cases (digit b) (λ d. rw d (tail-fits k (10 * n + figure b) g ∙ more-place k n b (cut g) (all digit g))) (λ d. rw d)
-
--- "at most 7 digits before the point" is a limit on the millionths, since what stands behind the point is less than one
-part-lt : (k : ℕ) (x : Bytes) → all digit x ≡ true → length x ≤ k → part k x < 10 ^ k
-part-lt k x d l =
-    let less : value x * 10 ^ (k - length x) < 10 ^ length x * 10 ^ (k - length x) = mul-lt-mul-of-pos-right (value-lt x d) (ten-pos (k - length x)) in
-    let joined : 10 ^ length x * 10 ^ (k - length x) ≡ 10 ^ k = sym (pow-add 10 (length x) (k - length x)) ∙ ap (λ (y : ℕ). 10 ^ y) (omega arith) in
-    omega arith
-
-keep-digits : (b : ℕ) (x : Bytes) → digit b ≡ true → all digit x ≡ true → all digit (keepBefore zeroDigit b x) ≡ true
-unfolding keepBefore all
-keep-digits b [] d h = cases (zeroDigit b) (λ z. rw z) (λ z. rw (z, d))
-keep-digits b (c ∷ x) d h = rw d h
-
-cut-digits : (g : Bytes) → all digit g ≡ true → all digit (cut g) ≡ true
-unfolding dropBack all
-cut-digits [] h = refl
-cut-digits (b ∷ g) h = keep-digits b (cut g) (and-left (digit b) (all digit g) h) (cut-digits g (and-right (digit b) (all digit g) h))
-
-limit-front : (f g : Bytes) → all digit f ≡ true → all digit g ≡ true → length (cut g) ≤ 6 → leb (length (dropFront zeroDigit f)) 7 ≡ ltb (value f * 10 ^ 6 + part 6 (cut g)) (10 ^ 13)
-limit-front f g df dg l =
-    let less : part 6 (cut g) < 10 ^ 6 = part-lt 6 (cut g) (cut-digits g dg) l in
-    few 7 f df
-    ∙ cases (ltb (value f) (10 ^ 7)) (λ y. y ∙ sym (lt-ltb (value f * 10 ^ 6 + part 6 (cut g)) (10 ^ 13) (omega (arith, ltb-true (value f) (10 ^ 7) y))))
-    (λ n. n ∙ sym (le-ltb (value f * 10 ^ 6 + part 6 (cut g)) (10 ^ 13) (omega (arith, ltb-false (value f) (10 ^ 7) n))))
-
-swap : (a b : Bool) (x : Number) → pick (and a b) x noNumber ≡ pick (and (and b true) a) x noNumber
-swap true true x = refl
-swap true false x = refl
-swap false true x = refl
-swap false false x = refl
-
--- the definition's answer, where a digit is there
-decimal-tail : (f g : Bytes) → nonEmpty (f ++ g) ≡ true → pick (all digit f) (tail 6 (value f) g) noNumber ≡ decimal f g
-unfolding decimal written short above millionths limited
-decimal-tail f g s =
-    cases (all digit f)
-    (λ df. cases (all digit g)
-    (λ dg. cases (leb (length (cut g)) 6)
-    (λ l. rw (df, tail-fits 6 (value f) g, dg, l, s, limit-front f g df dg (leb-true (length (cut g)) 6 l))
-    (swap (ltb 0 (value f * 10 ^ 6 + part 6 (cut g))) (ltb (value f * 10 ^ 6 + part 6 (cut g)) (10 ^ 13)) (number (value f * 10 ^ 6 + part 6 (cut g)))))
-    (λ l. rw (df, tail-fits 6 (value f) g, dg, l, s, and-false (leb (length (dropFront zeroDigit f)) 7))))
-    (λ dg. rw (df, tail-fits 6 (value f) g, dg)))
-    (λ df. rw df)
-
-from-point : (u : Bytes) → ended Body.Point u ≡ decimal [] u
-unfolding run bodyStep numberBodyEnd decimal written all nonEmpty valueFrom
-from-point [] = refl
-from-point (b ∷ u) = after 6 0 (b ∷ u) ∙ decimal-tail [] (b ∷ u) refl
-
-from-plus : (u : Bytes) → ended (Body.Signed false) u ≡ parted u
-unfolding run bodyStep numberBodyEnd signStep wholeStep parted decimal written all nonEmpty before behind
-from-plus [] = refl
-from-plus (b ∷ u) =
-    cases (eqb b (code ".")) (λ p. rw p (from-point u))
-    (λ p. rw p (rw p at (whole 0 (b ∷ u)) ∙ decimal-tail (b ∷ before u) (behind u) refl))
-
-from-start : (t : Bytes) → ended Body.Start t ≡ parted (unsigned t)
+from-start : (t : Bytes) → length t < SLICE → ended Body.Start t ≡ decimalOf (unsigned t)
 unfolding run bodyStep numberBodyEnd firstStep unsigned
-from-start [] = from-plus []
-from-start (b ∷ t) =
-    cases (eqb b (code "-")) (λ m. rw m (from-minus t) ∙ minus-parted b t m)
-    (λ m. cases (eqb b (code "+")) (λ p. rw (m, p) (from-plus t)) (λ p. rw (m, p) (from-plus (b ∷ t))))
+from-start [] l = from-plus [] l
+from-start (b ∷ t) l =
+    cases (eqb b (code "-")) (λ m. rw m (from-minus t) ∙ minus-none b t m)
+    (λ m. cases (eqb b (code "+")) (λ p. rw (m, p) (from-plus t (omega arith))) (λ p. rw (m, p) (from-plus (b ∷ t) l)))
 
 -- a blank among the bytes is no digit, no point and no plus
 blank-parts : (u : Bytes) → all solid u ≡ false → and (all digit (before u)) (all digit (behind u)) ≡ false
@@ -215,57 +280,131 @@ blank-parts (b ∷ u) h =
     cases (eqb b (code ".")) (λ p. rw p (digits-solid u (rest-blank b u (point-solid b p) h)))
     (λ p. cases (digit b) (λ d. rw (p, d) (blank-parts u (rest-blank b u (digit-solid b d) h))) (λ d. rw (p, d)))
 
-and-both : (a b c : Bool) → and a b ≡ false → and a (and b c) ≡ false
-and-both true true c h = never refl h
-and-both true false c h = refl
-and-both false b c h = refl
-
 blank-parted : (u : Bytes) → all solid u ≡ false → parted u ≡ noNumber
-unfolding parted decimal written
-blank-parted u h = rw (and-both (all digit (before u)) (all digit (behind u)) (nonEmpty (before u ++ behind u)) (blank-parts u h))
+unfolding parted
+blank-parted u h = not-digits (before u) (behind u) (blank-parts u h)
 
-blank-unsigned : (t : Bytes) → all solid t ≡ false → parted (unsigned t) ≡ noNumber
+mark-solid : (b : ℕ) → mark b ≡ true → solid b ≡ true
+unfolding solid blank
+mark-solid b m = cases (eqb b (code "e")) (λ e. rw (eqb-true b (code "e") e)) (λ e. rw (eqb-true b (code "E") (rw e at m)))
+
+-- a blank stands before the mark or behind it
+blank-split : (u : Bytes) → all solid u ≡ false → powered u ≡ true → and (all solid (mantissa u)) (all solid (power u)) ≡ false
+unfolding all
+blank-split [] h p = h
+blank-split (b ∷ u) h p =
+    cases (mark b) (λ m. rw m (rest-blank b u (mark-solid b m) h))
+    (λ m. cases (solid b) (λ s. rw (m, s) (blank-split u (rw s at h) (rw m at p))) (λ s. rw (m, s)))
+
+blank-power : (x : Bytes) → all solid x ≡ false → powerWritten x ≡ false
+unfolding all
+blank-power [] h = never refl h
+blank-power (b ∷ x) h =
+    cases (eqb b (code "+")) (λ p. rw (p, digits-solid x (rest-blank b x (plus-solid b p) h), and-false (nonEmpty x)))
+    (λ p. cases (eqb b (code "-")) (λ m. rw (p, m, digits-solid x (rest-blank b x (minus-solid b m) h), and-false (nonEmpty x)))
+    (λ m. rw (p, m, digits-solid (b ∷ x) h, and-false (nonEmpty (b ∷ x)))))
+
+and-either : {P : Type 0} (a b : Bool) → and a b ≡ false → (a ≡ false → P) → (b ≡ false → P) → P
+and-either true b h f g = g h
+and-either false b h f g = f refl
+
+blank-decimal : (u : Bytes) → all solid u ≡ false → decimalOf u ≡ noNumber
+unfolding written
+blank-decimal u h =
+    cases (powered u)
+    (λ p. rw p
+    (and-either (all solid (mantissa u)) (all solid (power u)) (blank-split u h p)
+    (λ a. let m = mantissa u in rw (and-both (all digit (before m)) (all digit (behind m)) (nonEmpty (before m ++ behind m)) (blank-parts m a)))
+    (λ a. rw (blank-power (power u) a, and-false (written (before (mantissa u)) (behind (mantissa u)))))))
+    (λ p. rw p (blank-parted u h))
+
+blank-unsigned : (t : Bytes) → all solid t ≡ false → decimalOf (unsigned t) ≡ noNumber
 unfolding unsigned
-blank-unsigned [] h = blank-parted [] h
+blank-unsigned [] h = blank-decimal [] h
 blank-unsigned (b ∷ t) h =
-    cases (eqb b (code "+")) (λ p. rw p (blank-parted t (rest-blank b t (plus-solid b p) h))) (λ p. rw p (blank-parted (b ∷ t) h))
+    cases (eqb b (code "+")) (λ p. rw p (blank-decimal t (rest-blank b t (plus-solid b p) h))) (λ p. rw p (blank-decimal (b ∷ t) h))
 
-clear : (t : Bytes) → pick (all solid t) (parted (unsigned t)) noNumber ≡ parted (unsigned t)
+clear : (t : Bytes) → pick (all solid t) (decimalOf (unsigned t)) noNumber ≡ decimalOf (unsigned t)
 clear t = cases (all solid t) (λ h. rw h) (λ h. rw (h, blank-unsigned t h))
+
+-- what is dropped leaves no more bytes
+front-short : (class : ℕ → Bool) (w : Bytes) → length (dropFront class w) ≤ length w
+unfolding dropFront
+front-short class [] = omega arith
+front-short class (b ∷ w) = cases (class b) (λ t. rw t (let h = front-short class w in omega arith)) (λ t. rw t (omega arith))
+
+keep-short : (class : ℕ → Bool) (b : ℕ) (w : Bytes) → length (keepBefore class b w) ≤ suc (length w)
+unfolding keepBefore
+keep-short class b [] = cases (class b) (λ t. rw t (omega arith)) (λ t. rw t (omega arith))
+keep-short class b (c ∷ w) = omega arith
+
+back-short : (class : ℕ → Bool) (w : Bytes) → length (dropBack class w) ≤ length w
+unfolding dropBack
+back-short class [] = omega arith
+back-short class (b ∷ w) = let h = back-short class w in let k = keep-short class b (dropBack class w) in omega arith
+
+trim-short : (w : Bytes) → length (trim w) ≤ length w
+unfolding trim
+trim-short w = let a = front-short blank w in let b = back-short blank (dropFront blank w) in omega arith
 
 pub number-exact : NumberExact
 unfolding numberEnd numberOf
-number-exact w =
+number-exact w l =
     ap numberEnd (apart w)
     ∙ ap numberRead
     (trimmed bodyStep noNumber numberBodyEnd Body.Start w
-    ∙ ap (λ (x : Number). pick (all solid (trim w)) x noNumber) (from-start (trim w))
+    ∙ ap (λ (x : Number). pick (all solid (trim w)) x noNumber) (from-start (trim w) (let h = trim-short w in omega arith))
     ∙ clear (trim w))
 
--- an accepted number kept both limits
-picked : (t : Bool) (m n : ℕ) → pick t (number m) noNumber ≡ number n → (t ≡ true) × (m ≡ n)
-picked true m n h = (refl, cc)
-picked false m n h = absurd (let z : _≡_ {A = ℕ} 0 1 = cc in omega arith)
+-- m millionths are f.g times ten to the power that x writes
+pub record Powered (f g x : Bytes) (m : ℕ) : Type 0 where
+  pub some : 0 < m
+  pub few : m < 10 ^ 13
+  pub up : below x ≡ false → m * 10 ^ length g ≡ value (f ++ g) * 10 ^ (6 + value (powerDigits x))
+  pub down : below x ≡ true → m * 10 ^ (length g + value (powerDigits x)) ≡ value (f ++ g) * 10 ^ 6
 
-limits : (f g : Bytes) → and (written f g) (and (short f g) (above f g)) ≡ true → (0 < millionths f g) × (millionths f g < 10 ^ 13)
-unfolding written short above millionths
-limits f g h =
-    let w : written f g ≡ true = and-left (written f g) (and (short f g) (above f g)) h in
-    let r : and (short f g) (above f g) ≡ true = and-right (written f g) (and (short f g) (above f g)) h in
-    let s : short f g ≡ true = and-left (short f g) (above f g) r in
-    let df : all digit f ≡ true = and-left (all digit f) (and (all digit g) (nonEmpty (f ++ g))) w in
-    let dg : all digit g ≡ true = and-left (all digit g) (nonEmpty (f ++ g)) (and-right (all digit f) (and (all digit g) (nonEmpty (f ++ g))) w) in
-    let lf : leb (length (dropFront zeroDigit f)) 7 ≡ true = and-left (leb (length (dropFront zeroDigit f)) 7) (leb (length (cut g)) 6) s in
-    let lg : leb (length (cut g)) 6 ≡ true = and-right (leb (length (dropFront zeroDigit f)) 7) (leb (length (cut g)) 6) s in (
-      ltb-true 0 (millionths f g) (and-right (short f g) (above f g) r),
-      ltb-true (millionths f g) (10 ^ 13) (sym (limit-front f g df dg (leb-true (length (cut g)) 6 lg)) ∙ lf),
-    )
+pub power-exact : (f g x : Bytes) (m : ℕ) → written f g ≡ true → powerWritten x ≡ true → (out f g x ≡ number m) ↔ Powered f g x m
+unfolding written
+power-exact f g x m w p =
+    let a = and-left (all digit f) (and (all digit g) (nonEmpty (f ++ g))) w in
+    let r = and-right (all digit f) (and (all digit g) (nonEmpty (f ++ g))) w in
+    let b = and-left (all digit g) (nonEmpty (f ++ g)) r in
+    let s = and-right (all digit g) (nonEmpty (f ++ g)) r in
+    (λ h. to a b s (below x) refl (rw (w, p) at h), λ h. rw (w, p) (from a b s (below x) refl h))
+  where
+    e : ℕ
+    e = value (powerDigits x)
+
+    to : all digit f ≡ true → all digit g ≡ true → nonEmpty (f ++ g) ≡ true → (t : Bool) → below x ≡ t → pick t (left e f g) (right e f g) ≡ number m → Powered f g x m
+    to a b s true t h =
+        let y = exactly-to (value (f ++ g)) 6 (length g + e) m (sym (left-exact e f g a b s) ∙ h) in
+        record { some = y .some; few = y .few; up = λ n. never t n; down = λ n. y .same }
+    to a b s false t h =
+        let y = exactly-to (value (f ++ g)) (6 + e) (length g) m (sym (right-exact e f g a b s) ∙ h) in
+        record { some = y .some; few = y .few; up = λ n. y .same; down = λ n. never n t }
+
+    from : all digit f ≡ true → all digit g ≡ true → nonEmpty (f ++ g) ≡ true → (t : Bool) → below x ≡ t → Powered f g x m → pick t (left e f g) (right e f g) ≡ number m
+    from a b s true t h = left-exact e f g a b s ∙ exactly-from (value (f ++ g)) 6 (length g + e) m (record { some = h .some; few = h .few; same = h .down t })
+    from a b s false t h = right-exact e f g a b s ∙ exactly-from (value (f ++ g)) (6 + e) (length g) m (record { some = h .some; few = h .few; same = h .up t })
+
+out-range : (f g x : Bytes) (n : ℕ) → out f g x ≡ number n → (1 ≤ n) × (n ≤ 9999999999999)
+out-range f g x n h = go (and (written f g) (powerWritten x)) (below x) h
+  where
+    e : ℕ
+    e = value (powerDigits x)
+
+    go : (t b : Bool) → pick t (pick b (left e f g) (right e f g)) noNumber ≡ number n → (1 ≤ n) × (n ≤ 9999999999999)
+    go true true h = decimal-range _ _ n h
+    go true false h = decimal-range _ _ n h
+    go false b h = absurd (let z : _≡_ {A = ℕ} 0 1 = cc in omega arith)
 
 pub number-range : NumberRange
-unfolding numberOf parted decimal
-number-range v n h =
-    let f = before (unsigned (trim v)) in
-    let g = behind (unsigned (trim v)) in
-    let p : (and (written f g) (and (short f g) (above f g)) ≡ true) × (millionths f g ≡ n) = picked (and (written f g) (and (short f g) (above f g))) (millionths f g) n h in
-    let l : (0 < millionths f g) × (millionths f g < 10 ^ 13) = limits f g (p .0) in
-    (omega (arith, p .1, l .0), omega (arith, p .1, l .1))
+unfolding numberOf parted
+number-range v n h = go (powered (unsigned (trim v))) h
+  where
+    s : Bytes
+    s = unsigned (trim v)
+
+    go : (t : Bool) → pick t (out (before (mantissa s)) (behind (mantissa s)) (power s)) (decimal (before s) (behind s)) ≡ number n → (1 ≤ n) × (n ≤ 9999999999999)
+    go true h = out-range (before (mantissa s)) (behind (mantissa s)) (power s) n h
+    go false h = decimal-range (before s) (behind s) n h

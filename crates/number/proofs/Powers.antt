@@ -54,7 +54,7 @@ lead-le b s d z =
     let least : 1 * 10 ^ length s ≤ (10 * 0 + figure b) * 10 ^ length s = mul-le-mul-right (10 ^ length s) (omega arith) in
     omega arith
 
-zero-front : (b : ℕ) (s : Bytes) → zeroDigit b ≡ true → value (b ∷ s) ≡ value s
+pub zero-front : (b : ℕ) (s : Bytes) → zeroDigit b ≡ true → value (b ∷ s) ≡ value s
 unfolding valueFrom
 zero-front b s z = rw (eqb-true b 48 z)
 

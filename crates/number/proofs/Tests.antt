@@ -1,13 +1,12 @@
 -- Small laws of tests and of bytes: what the test of a class says, and a definition that picks its case, met by what tests showed.
 use mathlib.Core.Path.{_≡_, refl, sym, _∙_}
 use mathlib.Core.Bool.{Bool, true, false}
-use Prim.Native.Nat.{ℕ, _≤_, min}
+use Prim.Native.Nat.{ℕ, _≤_}
 use Prim.Native.Char.{code}
 use native.Mathlib.Omega.{arith}
 use lib.Dec.{eqb, leb}
 use borrow.Author.Tests.{leb-true, eqb-true, ne-eqb, lt-leb}
 use Rattle.number.specs.Bytes.{and, blank, digit}
-use Rattle.number.specs.Scan.{TOP, joined}
 
 -- a value by the two cases of a test
 pub cases : {P : Type 0} (t : Bool) → (t ≡ true → P) → (t ≡ false → P) → P
@@ -50,7 +49,3 @@ digit-no-blank b h =
 pub point-no-digit : (b : ℕ) → eqb b (code ".") ≡ true → digit b ≡ false
 unfolding digit
 point-no-digit b h = rw (eqb-true b (code ".") h)
-
--- a number that was cut at the top, with one more digit
-pub joined-more : (n b : ℕ) → joined (min TOP n) b ≡ joined n b
-joined-more n b = omega arith

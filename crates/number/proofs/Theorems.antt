@@ -1,13 +1,14 @@
 -- The theorems of the crate, for a reader to find: exactness of the scan, the law of one more byte, the range of a number, that no
 -- second answer meets a promise, and the bench table.
 use mathlib.Core.Path.{_≡_, refl, sym, _∙_}
-use mathlib.Core.Bool.{Bool}
+use mathlib.Core.Bool.{Bool, true}
 use mathlib.Core.List.{[], _∷_}
 use Prim.Native.Nat.{ℕ}
+use mathlib.Core.Logic.{_↔_}
 use native.Mathlib.Omega.{arith}
 use Rattle.number.specs.Bytes.{Bytes, blank, digit, nonEmpty, all, trim, dropFront, dropBack, keepBefore, valueFrom, before, behind}
 use Rattle.number.specs.Whole.{Whole, noInt, int, sized, signed, intOf, capped, paper, wholeRead}
-use Rattle.number.specs.Positive.{written, short, above, millionths, decimal, parted, unsigned, numberOf, numberRead, NumberRange}
+use Rattle.number.specs.Positive.{number, written, short, above, millionths, decimal, parted, unsigned, powerWritten, out, numberOf, numberRead, NumberRange}
 use Rattle.number.specs.Guid.{guidOf}
 use Rattle.number.specs.Version.{versionOf}
 use Rattle.number.specs.Bench.{Bench, bench}
@@ -71,6 +72,10 @@ guid-only v r q h k = value-only (guidOf v) r q h k
 
 pub version-only : (v : Bytes) (r q : Bool) → r ≡ versionOf v → q ≡ versionOf v → r ≡ q
 version-only v r q h k = value-only (versionOf v) r q h k
+
+-- with an exponent the value is the exact decimal: f and g are the digits before and behind the point, e what the exponent's digits write
+pub power-exact : (f g x : Bytes) (m : ℕ) → written f g ≡ true → powerWritten x ≡ true → (out f g x ≡ number m) ↔ number-laws.Powered f g x m
+power-exact = number-laws.power-exact
 
 -- an accepted number is 1 to 9,999,999,999,999 millionths
 pub number-range : NumberRange

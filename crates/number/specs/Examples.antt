@@ -83,7 +83,38 @@ numbers =
     ∷ positive (text "1..2") noNumber
     ∷ positive (text "1 2") noNumber
     ∷ positive (text "1,5") noNumber
-    ∷ positive (text "1e3") noNumber
+    ∷ []
+
+-- order 2: "an exponent `e` or `E` with optional sign and one or more digits. The value is the exact decimal, and the digit limits apply to the
+-- number written out. `0E5` stays bad, as do INF and NaN."
+abbrev pub powers : List Case
+powers =
+    positive (text "1.6E2") (number 160000000)
+    ∷ positive (text "1.E5") (number 100000000000)
+    ∷ positive (text ".5e+1") (number 5000000)
+    ∷ positive (text "1e3") (number 1000000000)
+    ∷ positive (text "1E-6") (number 1)
+    ∷ positive (text "10E-7") (number 1)
+    ∷ positive (text "12345678E-1") (number 1234567800000)
+    ∷ positive (text "0.0000001E1") (number 1)
+    ∷ positive (text "9.999999999999E6") (number 9999999999999)
+    ∷ positive (text "1E00000001") (number 10000000)
+    ∷ positive (text " +1E-0 ") (number 1000000)
+    ∷ positive (text "1E") noNumber
+    ∷ positive (text "E5") noNumber
+    ∷ positive (text ".E5") noNumber
+    ∷ positive (text "1E7") noNumber
+    ∷ positive (text "1E-7") noNumber
+    ∷ positive (text "0E5") noNumber
+    ∷ positive (text "1E 2") noNumber
+    ∷ positive (text "1E+") noNumber
+    ∷ positive (text "1E+-2") noNumber
+    ∷ positive (text "1EE2") noNumber
+    ∷ positive (text "1E2.0") noNumber
+    ∷ positive (text "-1E2") noNumber
+    ∷ positive (text "INF") noNumber
+    ∷ positive (text "NaN") noNumber
+    ∷ whole (text "1E2") noInt
     ∷ []
 
 -- each case with what the definition says of its text
@@ -99,6 +130,10 @@ ints-hold = refl
 pub numbers-hold : found numbers ≡ numbers
 unfolding numberOf parted unsigned decimal written short above millionths before behind trim dropBack dropFront keepBefore blank nonEmpty all digit valueFrom
 numbers-hold = refl
+
+pub powers-hold : found powers ≡ powers
+unfolding intOf signed sized numberOf parted unsigned decimal written short above millionths before behind trim dropBack dropFront keepBefore blank nonEmpty all digit valueFrom
+powers-hold = refl
 
 -- the cap is one above the largest size of a table, 65,535: it is told apart from all that a table has
 pub caps :

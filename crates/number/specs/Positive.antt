@@ -5,8 +5,8 @@ use mathlib.Core.Path.{_≡_}
 use mathlib.Core.Bool.{Bool, true, false}
 use mathlib.Core.List.{[], _∷_, _++_}
 use lib.Dec.{eqb, leb, ltb}
-use lib.ListN.{length}
-use Rattle.number.specs.Bytes.{Bytes, pick, and, digit, zeroDigit, nonEmpty, all, trim, dropFront, dropBack, value, before, behind}
+use lib.ListN.{length, take, drop, replicate}
+use Rattle.number.specs.Bytes.{Bytes, pick, and, or, digit, zeroDigit, nonEmpty, all, trim, dropFront, dropBack, value, before, behind}
 use Rattle.number.specs.declared.positive.NumberRead.{NumberRead}
 
 -- "at most 7 digits before the point", "at most 6 behind it"
@@ -49,9 +49,59 @@ unsigned (b ∷ s) = pick (eqb b (code "+")) s (b ∷ s)
 unfoldable pub parted : Bytes → Number
 parted s = decimal (before s) (behind s)
 
--- "Positive number: optional `+`, digits with at most one point ..", blanks at the ends dropped
+-- order 2: "Accept an exponent `e` or `E` with optional sign and one or more digits."
+abbrev pub mark : ℕ → Bool
+mark b = or (eqb b (code "e")) (eqb b (code "E"))
+
+-- what stands before the first mark, what stands behind it, and whether there is one
+abbrev pub mantissa : Bytes → Bytes
+mantissa [] = []
+mantissa (b ∷ s) = pick (mark b) [] (b ∷ mantissa s)
+
+abbrev pub power : Bytes → Bytes
+power [] = []
+power (b ∷ s) = pick (mark b) s (power s)
+
+abbrev pub powered : Bytes → Bool
+powered [] = false
+powered (b ∷ s) = pick (mark b) true (powered s)
+
+-- "optional sign": the digits of an exponent, and whether it is below zero
+abbrev pub powerDigits : Bytes → Bytes
+powerDigits [] = []
+powerDigits (b ∷ s) = pick (or (eqb b (code "+")) (eqb b (code "-"))) s (b ∷ s)
+
+abbrev pub below : Bytes → Bool
+below [] = false
+below (b ∷ s) = eqb b (code "-")
+
+-- "one or more digits"
+abbrev pub powerWritten : Bytes → Bool
+powerWritten x = and (nonEmpty (powerDigits x)) (all digit (powerDigits x))
+
+abbrev pub zeros : ℕ → Bytes
+zeros e = replicate e (code "0")
+
+-- "the number written out": the point stands e places further right, or left, with zeros where no digit stands
+abbrev pub right : ℕ → Bytes → Bytes → Number
+right e f g = decimal (f ++ take e (g ++ zeros e)) (drop e (g ++ zeros e))
+
+abbrev pub left : ℕ → Bytes → Bytes → Number
+left e f g = decimal (take (length f) (zeros e ++ f)) (drop (length f) (zeros e ++ f) ++ g)
+
+-- "The value is the exact decimal, and the digit limits apply to the number written out."
+abbrev pub out : Bytes → Bytes → Bytes → Number
+out f g x =
+    pick (and (written f g) (powerWritten x))
+    (pick (below x) (left (value (powerDigits x)) f g) (right (value (powerDigits x)) f g))
+    noNumber
+
+abbrev pub decimalOf : Bytes → Number
+decimalOf s = pick (powered s) (out (before (mantissa s)) (behind (mantissa s)) (power s)) (parted s)
+
+-- "Positive number: optional `+`, digits with at most one point ..", with an exponent or without; blanks at the ends dropped
 unfoldable pub numberOf : Bytes → Number
-numberOf v = parted (unsigned (trim v))
+numberOf v = decimalOf (unsigned (trim v))
 
 -- what the limits leave: one millionth, up to seven digits before the point and six behind it
 abbrev pub NumberRange : Type 0

@@ -8,23 +8,25 @@
 -- and laws, which `proofs/Theorems.antt` proves:
 --   scanned-more     the state after w ++ b ∷ [] is the step by b of the state after w
 --   scanned-on       the state after w ++ u is the state after u from the state after w
---   int-exact, number-exact   the end of the state after w says what the definition says of w
+--   int-exact, number-exact   the end of the state after w says what the definition says of w; of a positive number if w has fewer bytes than a slice may
+--                    have, since the digits before and behind the point and the exponent are counted
 -- Whoever keeps "s ≡ run step start w" in a loop over the bytes w has, by the first law, the same of one byte more, and, by the last, the
 -- answer of the definition at the end. The steps are defined on every state, so no call asks anything of its caller.
-use Prim.Native.Nat.{ℕ, suc, _+_, _-_, _*_, _^_, min}
+use Prim.Native.Nat.{ℕ, zero, suc, _+_, _-_, _*_, _/_, _%_, _^_, _<_, min}
 use Prim.Native.Char.{code}
 use mathlib.Core.Path.{_≡_}
 use mathlib.Core.Bool.{Bool, true, false}
 use mathlib.Core.List.{List, [], _∷_, _++_}
-use lib.Dec.{eqb, ltb}
-use lib.ListN.{drop}
+use lib.Dec.{eqb, leb, ltb}
+use lib.ListN.{drop, length}
 use Rattle.number.specs.Bytes.{Bytes, pick, and, blank, digit, zeroDigit, figure}
 use Rattle.number.specs.Whole.{CAP, intOf, capped, paper}
-use Rattle.number.specs.Positive.{BEFORE, BEHIND, Number, noNumber, number, numberOf, numberRead}
+use Rattle.number.specs.Positive.{BEFORE, BEHIND, Number, noNumber, number, mark, numberOf, numberRead}
 use Rattle.number.specs.Guid.{Place, places, may}
 use Rattle.number.specs.declared.whole.WholeRead.{WholeRead}
 use Rattle.number.specs.declared.positive.NumberRead.{NumberRead}
 use Rattle.number.specs.declared.ends.Ends.{Ends}
+use Rattle.number.specs.declared.scan.Digits.{Digits}
 use Rattle.number.specs.declared.scan.Body.{Body}
 use Rattle.number.specs.declared.scan.Scan.{Scan}
 
@@ -61,44 +63,82 @@ broken Ends.Inside = false
 broken Ends.Behind = false
 broken Ends.Broken = true
 
--- The number between the blanks: a sign, digits, a point, digits.
+-- The number between the blanks: a sign, digits, a point, digits, an exponent.
 
 -- a positive number has no more digits than may stand before and behind the point: it is below this, and digits are counted up to it
 abbrev pub TOP : ℕ
 TOP = 10 ^ (BEFORE + BEHIND)
 
--- n with one more digit
-abbrev pub joined : ℕ → ℕ → ℕ
-joined n b = min TOP (10 * n + figure b)
+-- below this one digit more stays below the top
+abbrev pub TENTH : ℕ
+TENTH = 10 ^ (BEFORE + BEHIND - 1)
 
--- one more digit before the point, and behind it: where no place is left that counts, zeros may stand
-unfoldable pub wholeDigit : Bool → ℕ → ℕ → Body
-wholeDigit minus n b = pick (digit b) (Body.Whole minus (joined n b)) Body.Dead
+-- exponents, and the digits that are counted, are told up to here
+abbrev pub FAR : ℕ
+FAR = 10 ^ 19
 
-unfoldable pub partDigit : ℕ → ℕ → ℕ → Body
-partDigit n left b =
-    pick (digit b)
-    (pick (ltb 0 left) (Body.Part (joined n b) (left - 1)) (pick (zeroDigit b) (Body.Part n 0) Body.Dead))
-    Body.Dead
+-- n with one more digit: zeros that would bring it to the top are left out
+unfoldable pub joined : ℕ → ℕ → ℕ
+joined n b = pick (ltb n TENTH) (10 * n + figure b) (pick (and (ltb n TOP) (zeroDigit b)) n TOP)
 
--- a point: behind a minus there is none
+-- and how many are left out
+unfoldable pub zerosMore : ℕ → ℕ → ℕ
+zerosMore n zeros = pick (ltb n TENTH) zeros (min FAR (zeros + 1))
+
+abbrev pub withDigit : Digits → ℕ → ℕ → Digits
+withDigit d places b = record { n = joined (d .n) b; zeros = zerosMore (d .n) (d .zeros); places = places }
+
+abbrev pub noDigits : Digits
+noDigits = record { n = 0; zeros = 0; places = 0 }
+
+-- one more digit before the point, and behind it
+abbrev pub wholeDigit : Bool → Digits → ℕ → Body
+wholeDigit minus d b = Body.Whole minus (withDigit d 0 b)
+
+unfoldable pub partDigit : Digits → ℕ → Body
+partDigit d b = pick (digit b) (Body.Part (withDigit d (min FAR (d .places + 1)) b)) Body.Dead
+
+-- behind a point and a digit before or behind it: an exponent too
+unfoldable pub partStep : Digits → ℕ → Body
+partStep d b = pick (mark b) (Body.Mark d) (partDigit d b)
+
+-- behind a sign: a minus has no point
 unfoldable pub signStep : Bool → ℕ → Body
-signStep minus b = pick (eqb b (code ".")) (pick minus Body.Dead Body.Point) (wholeDigit minus 0 b)
+signStep minus b = pick (digit b) (wholeDigit minus noDigits b) (pick minus Body.Dead (pick (eqb b (code ".")) Body.Point Body.Dead))
 
-unfoldable pub wholeStep : Bool → ℕ → ℕ → Body
-wholeStep minus n b = pick (eqb b (code ".")) (pick minus Body.Dead (Body.Part n BEHIND)) (wholeDigit minus n b)
+-- behind digits: behind a minus there are only digits
+unfoldable pub wholeStep : Bool → Digits → ℕ → Body
+wholeStep minus d b =
+    pick (digit b) (wholeDigit minus d b)
+    (pick minus Body.Dead (pick (eqb b (code ".")) (Body.Part d) (pick (mark b) (Body.Mark d) Body.Dead)))
 
 unfoldable pub firstStep : ℕ → Body
 firstStep b =
     pick (eqb b (code "-")) (Body.Signed true)
     (pick (eqb b (code "+")) (Body.Signed false) (signStep false b))
 
+-- the exponent e with one more digit
+abbrev pub powerMore : ℕ → ℕ → ℕ
+powerMore e b = min FAR (10 * e + figure b)
+
+unfoldable pub powerDigit : Bool → ℕ → Digits → ℕ → Body
+powerDigit minus e d b = pick (digit b) (Body.Power minus (powerMore e b) d) Body.Dead
+
+-- its sign
+unfoldable pub markStep : Digits → ℕ → Body
+markStep d b =
+    pick (eqb b (code "-")) (Body.Turned true d)
+    (pick (eqb b (code "+")) (Body.Turned false d) (powerDigit false 0 d b))
+
 unfoldable pub bodyStep : Body → ℕ → Body
 bodyStep Body.Start b = firstStep b
 bodyStep (Body.Signed minus) b = signStep minus b
-bodyStep (Body.Whole minus n) b = wholeStep minus n b
-bodyStep Body.Point b = partDigit 0 BEHIND b
-bodyStep (Body.Part n left) b = partDigit n left b
+bodyStep (Body.Whole minus d) b = wholeStep minus d b
+bodyStep Body.Point b = partDigit noDigits b
+bodyStep (Body.Part d) b = partStep d b
+bodyStep (Body.Mark d) b = markStep d b
+bodyStep (Body.Turned minus d) b = powerDigit minus 0 d b
+bodyStep (Body.Power minus e d) b = powerDigit minus e d b
 bodyStep Body.Dead b = Body.Dead
 
 -- The scan: the body takes the bytes that stand inside.
@@ -112,16 +152,19 @@ step s b =
       body = pick (inside (endsStep (s .ends) b)) (bodyStep (s .body) b) (s .body);
     }
 
--- As an Int: minus zero is zero.
-unfoldable pub sizedAs : Bool → ℕ → WholeRead
-sizedAs minus n = pick (eqb n 0) (WholeRead.Is false 0) (WholeRead.Is minus (min CAP n))
+-- As an Int: minus zero is zero, and an exponent is none.
+unfoldable pub sizedAs : Bool → Digits → WholeRead
+sizedAs minus d = pick (eqb (d .n) 0) (WholeRead.Is false 0) (WholeRead.Is minus (min CAP (d .n * 10 ^ d .zeros)))
 
 unfoldable pub intBodyEnd : Body → WholeRead
 intBodyEnd Body.Start = WholeRead.Bad
 intBodyEnd (Body.Signed minus) = WholeRead.Bad
-intBodyEnd (Body.Whole minus n) = sizedAs minus n
+intBodyEnd (Body.Whole minus d) = sizedAs minus d
 intBodyEnd Body.Point = WholeRead.Bad
-intBodyEnd (Body.Part n left) = WholeRead.Bad
+intBodyEnd (Body.Part d) = WholeRead.Bad
+intBodyEnd (Body.Mark d) = WholeRead.Bad
+intBodyEnd (Body.Turned minus d) = WholeRead.Bad
+intBodyEnd (Body.Power minus e d) = WholeRead.Bad
 intBodyEnd Body.Dead = WholeRead.Bad
 
 unfoldable pub intEnd : Scan → WholeRead
@@ -134,22 +177,48 @@ IntExact = (w : Bytes) → paper (intEnd (run step start w)) ≡ capped (intOf w
 unfoldable pub limited : ℕ → Number
 limited m = pick (and (ltb 0 m) (ltb m TOP)) (number m) noNumber
 
-unfoldable pub unsignedEnd : Bool → ℕ → Number
-unsignedEnd minus n = pick minus noNumber (limited (n * 10 ^ BEHIND))
+-- n / 10^k, where nothing is left over
+unfoldable pub tenths : ℕ → ℕ → Number
+tenths zero n = limited n
+tenths (suc k) n = pick (eqb (n % 10) 0) (tenths k (n / 10)) noNumber
+
+-- n * 10^up / 10^down
+unfoldable pub exactly : ℕ → ℕ → ℕ → Number
+exactly n up down = pick (leb down up) (limited (n * 10 ^ (up - down))) (tenths (down - up) n)
+
+-- none if n has too many digits that matter
+unfoldable pub ended : ℕ → ℕ → ℕ → Number
+ended n up down = pick (ltb n TOP) (exactly n up down) noNumber
+
+-- digits with the exponent e, or minus e
+unfoldable pub powerEnd : Bool → ℕ → Digits → Number
+powerEnd minus e d =
+    pick minus (ended (d .n) (min FAR (d .zeros + BEHIND)) (min FAR (d .places + e)))
+    (ended (d .n) (min FAR (min FAR (d .zeros + BEHIND) + e)) (d .places))
+
+unfoldable pub wholeEnd : Bool → Digits → Number
+wholeEnd minus d = pick minus noNumber (powerEnd false 0 d)
 
 unfoldable pub numberBodyEnd : Body → Number
 numberBodyEnd Body.Start = noNumber
 numberBodyEnd (Body.Signed minus) = noNumber
-numberBodyEnd (Body.Whole minus n) = unsignedEnd minus n
+numberBodyEnd (Body.Whole minus d) = wholeEnd minus d
 numberBodyEnd Body.Point = noNumber
-numberBodyEnd (Body.Part n left) = limited (n * 10 ^ left)
+numberBodyEnd (Body.Part d) = powerEnd false 0 d
+numberBodyEnd (Body.Mark d) = noNumber
+numberBodyEnd (Body.Turned minus d) = noNumber
+numberBodyEnd (Body.Power minus e d) = powerEnd minus e d
 numberBodyEnd Body.Dead = noNumber
 
 unfoldable pub numberEnd : Scan → NumberRead
 numberEnd s = numberRead (pick (broken (s .ends)) noNumber (numberBodyEnd (s .body)))
 
+-- a slice has fewer bytes: so many are counted one by one
+abbrev pub SLICE : ℕ
+SLICE = 2 ^ 63
+
 abbrev pub NumberExact : Type 0
-NumberExact = (w : Bytes) → numberEnd (run step start w) ≡ numberRead (numberOf w)
+NumberExact = (w : Bytes) → length w < SLICE → numberEnd (run step start w) ≡ numberRead (numberOf w)
 
 -- GUID and Version are read in a row: whether a byte may stand at place n, and how many digits stand first.
 unfoldable pub mayFirst : List Place → ℕ → Bool

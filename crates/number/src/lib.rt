@@ -5,6 +5,7 @@ pub mod ends;
 pub mod guid;
 pub mod positive;
 pub mod scan;
+mod tens;
 pub mod version;
 pub mod whole;
 

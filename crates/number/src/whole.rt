@@ -3,8 +3,10 @@ ghost use mathlib.Core.Path.{_≡_};
 ghost use Rattle.number.specs.Whole.{intOf, capped, paper};
 ghost use Rattle.number.specs.Scan.{sizedAs, intBodyEnd, intEnd};
 use crate::scan::Body;
+use crate::scan::Digits;
 use crate::scan::Scan;
 use crate::scan::scanned;
+use crate::tens::shifted;
 
 // Sizes of Ints are told apart up to here.
 const CAP: u64 = 65536;
@@ -16,14 +18,15 @@ pub enum WholeRead {
 }
 
 // Minus zero is zero.
-fn sized_as(minus: bool, n: u64) -> WholeRead
-    ensures { λ r. ⌜ r ≡ sizedAs minus n ⌝ }
+fn sized_as(minus: bool, d: Digits) -> WholeRead
+    ensures { λ r. ⌜ r ≡ sizedAs minus d ⌝ }
 {
-    if n == 0 {
+    if d.n == 0 {
         return WholeRead::Is(false, 0);
     }
-    if n < CAP {
-        return WholeRead::Is(minus, n as u32);
+    let size = shifted(d.n, d.zeros);
+    if size < CAP {
+        return WholeRead::Is(minus, size as u32);
     }
     WholeRead::Is(minus, CAP as u32)
 }
@@ -31,10 +34,10 @@ fn sized_as(minus: bool, n: u64) -> WholeRead
 fn body_end(body: Body) -> WholeRead
     ensures { λ r. ⌜ r ≡ intBodyEnd body ⌝ }
 {
-    let Body::Whole(minus, n) = body else {
+    let Body::Whole(minus, d) = body else {
         return WholeRead::Bad;
     };
-    sized_as(minus, n)
+    sized_as(minus, d)
 }
 
 /// The scan as an Int.

@@ -12,8 +12,9 @@ use Rattle.exact.specs.Chain.{clash}
 use Rattle.grammar.specs.Bytes.{within, every}
 use Rattle.model.specs.Tests.{every-append}
 use Rattle.number.specs.Bytes.{Bytes, digit, zeroDigit, figure, nonEmpty, all, dropBack, keepBefore, valueFrom, value, before, behind}
-use Rattle.number.specs.Positive.{BEFORE, BEHIND, number, written, short, millionths, above, decimal, unsigned, parted, numberOf}
+use Rattle.number.specs.Positive.{BEFORE, BEHIND, number, written, short, millionths, above, decimal, unsigned, parted, powered, decimalOf, numberOf}
 use Rattle.number.proofs.Powers.{shift, few}
+use Rattle.number.proofs.NumberLaws.{digit-no-mark}
 use Rattle.number.proofs.Tests.{cases, and-left, and-right, digit-low}
 use Rattle.printing.specs.Digits.{lastDigit, printInt, places}
 use Rattle.spelling.specs.Written.{behindPoint, printPart, printDecimal}
@@ -147,6 +148,18 @@ no-plus [] [] h = refl
 no-plus [] (c ∷ g) h = refl
 no-plus (b ∷ f) g h = let l = digit-low b (and-left (digit b) (all digit f) h) in rw (ne-eqb b 43 (λ e. omega arith))
 
+-- digits and a point have no exponent
+digits-plain : (g : Bytes) → all digit g ≡ true → powered g ≡ false
+unfolding all
+digits-plain [] h = refl
+digits-plain (b ∷ g) h = rw (digit-no-mark b (and-left (digit b) (all digit g) h)) (digits-plain g (and-right (digit b) (all digit g) h))
+
+no-power : (f g : Bytes) → all digit f ≡ true → all digit g ≡ true → powered (f ++ behindPoint g) ≡ false
+unfolding behindPoint all
+no-power [] [] h k = refl
+no-power [] (c ∷ g) h k = digits-plain (c ∷ g) k
+no-power (b ∷ f) g h k = rw (digit-no-mark b (and-left (digit b) (all digit f) h)) (no-power f g (and-right (digit b) (all digit f) h) k)
+
 point-marks : (g : Bytes) → all digit g ≡ true → every mark (behindPoint g) ≡ true
 unfolding behindPoint mark within
 point-marks [] h = refl
@@ -218,6 +231,6 @@ module _ (x : ℕ) where
   decimal-inverse l h =
       let d = int-digital (x / 10 ^ BEHIND) .digits in
       let m = decimal-millionths in
-      ap (λ (v : Bytes). parted (unsigned v)) (marks-trim (printDecimal x) decimal-marks)
-      ∙ ap parted (no-plus whole part d)
-      ∙ rw (before-point whole part d, behind-point whole part d, decimal-written, decimal-fits h, m, lt-ltb 0 x l)
+      ap (λ (v : Bytes). decimalOf (unsigned v)) (marks-trim (printDecimal x) decimal-marks)
+      ∙ ap decimalOf (no-plus whole part d)
+      ∙ rw (no-power whole part d part-digits, before-point whole part d, behind-point whole part d, decimal-written, decimal-fits h, m, lt-ltb 0 x l)

@@ -3,6 +3,7 @@ use mathlib.Core.Path.{_≡_, sym, ap, subst, _∙_}
 use mathlib.Core.List.{[], _++_}
 use mathlib.Core.Bool.{Bool, true}
 use Prim.Native.Nat.{ℕ, _≤_}
+use native.Mathlib.Omega.{arith}
 use lib.ListN.{length}
 use Rattle.grammar.specs.Bytes.{Bytes}
 use Rattle.grammar.specs.Character.{utf8}
@@ -38,15 +39,15 @@ pub scanned-next : {src : Bytes} {i c e : ℕ} {s s′ : Scan} → Scanned src i
 scanned-next {c = c} k t g = record { bytes = k .bytes ++ utf8 c; walked = walked-step (k .walked) t; state = g ∙ ap (λ (s : Scan). run step s (utf8 c)) (k .state) ∙ sym (scanned-on Scan step start (k .bytes) (utf8 c)) }
 
 pub scanned-end : {src : Bytes} {i : ℕ} {s : Scan} → Scanned src i s → length src ≤ i → WalkSays src (Read s)
-scanned-end k h = let (l, x, e) = walked-end (k .walked) h in record { says = (l, x, k .state ∙ ap (run step start) (sym e)) }
+scanned-end {src} k h = let (l, x, e) = walked-end (k .walked) h in let n : length (readValue l) ≤ length src = let a = k .walked .no-longer in let b = k .walked .upto in let c = ap length e in omega arith in record { says = (l, x, k .state ∙ ap (run step start) (sym e), n) }
 
 pub scanned-fail : {src : Bytes} {i : ℕ} {s : Scan} → Scanned src i s → {p : Piece} → Fails p → UnitSays src i p → WalkSays src Unread
 scanned-fail k {p} f g = record { says = walked-fail (k .walked) (untaken p f g) }
 
 -- what is said of a scan, by the walk
 module _ {A : Type 0} (says : Bytes → A → Type 0) (none : A) {w : Bytes} {p : Walk} (g : WalkSays w p) where
-  pub walk-read : {s : Scan} → p ≡ Read s → {r : A} → ((v : Bytes) → s ≡ run step start v → says v r) → Reads says none w r
-  walk-read q f = let (l, x, e) = subst (λ (p : Walk). WalkCase w p) q (g .says) in read l x (f (readValue l) e)
+  pub walk-read : {s : Scan} → p ≡ Read s → {r : A} → ((v : Bytes) → length v ≤ length w → s ≡ run step start v → says v r) → Reads says none w r
+  walk-read q f = let (l, x, e, n) = subst (λ (p : Walk). WalkCase w p) q (g .says) in read l x (f (readValue l) n e)
 
   pub walk-none : p ≡ Unread → {r : A} → r ≡ none → Reads says none w r
   walk-none q e = unread (subst (λ (p : Walk). WalkCase w p) q (g .says)) e

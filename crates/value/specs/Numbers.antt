@@ -2,6 +2,8 @@
 use mathlib.Core.Path.{_≡_}
 use mathlib.Core.List.{List}
 use mathlib.Core.Bool.{Bool, false}
+use Prim.Native.Nat.{_≤_}
+use lib.ListN.{length}
 use Rattle.grammar.specs.Bytes.{Bytes}
 use Rattle.grammar.specs.Value.{Item, readValue}
 use Rattle.number.specs.Whole.{intOf, capped, paper}
@@ -32,9 +34,9 @@ GuidReads w r = Reads (λ v q. q ≡ guidOf v) false w r
 abbrev pub VersionReads : Bytes → Bool → Type 0
 VersionReads w r = Reads (λ v q. q ≡ versionOf v) false w r
 
--- the scan of the bytes that w reads as, or that it is no items
+-- the scan of the bytes that w reads as, which are no more than w has; or that it is no items
 abbrev pub WalkCase : Bytes → Walk → Type 0
-WalkCase w (Read s) = (l : List Item) × Loose w l × (s ≡ run step start (readValue l))
+WalkCase w (Read s) = (l : List Item) × Loose w l × (s ≡ run step start (readValue l)) × (length (readValue l) ≤ length w)
 WalkCase w Unread = (l : List Item) → Loose w l → ⊥
 
 pub record WalkSays (w : Bytes) (r : Walk) : Type 0 where

@@ -1,6 +1,7 @@
 -- `number_of` is the definition on every slice: the end of the scan is exact.
 use borrow.Author.Needs.{needs}
 use mathlib.Core.Path.{ap, _∙_}
+use native.Mathlib.Omega.{arith}
 use Rattle.number.specs.Scan.{numberEnd}
 use Rattle.number.proofs.Theorems.{number-exact}
 use Rattle.number.proofs.positive.number_of.Statement.{statement}
@@ -13,7 +14,7 @@ number-end-requires : tie.Need-number-end-requires
 number-end-requires c κs = search needs
 
 returns : tie.Need-returns
-returns c = c .number-end .ensures ∙ ap numberEnd (c .before .scanned .ensures) ∙ number-exact _
+returns c = c .number-end .ensures ∙ ap numberEnd (c .before .scanned .ensures) ∙ number-exact _ (omega arith)
 
 pub number-of-spec : {M : Type 1} → statement M
 number-of-spec = tie.close (tie.spec scanned-requires number-end-requires returns)

@@ -1,9 +1,15 @@
 -- `whole_step` is the definition, test by test.
-use borrow.Author.Needs.{needs}
 use Rattle.number.specs.Scan.{wholeStep}
 use Rattle.number.proofs.Picks.{picks}
+use borrow.Author.Needs.{needs}
 use Rattle.number.proofs.scan.whole_step.Statement.{statement}
 use Rattle.number.proofs.scan.whole_step.Tie as tie
+
+is-digit-requires : tie.Need-is-digit-requires
+is-digit-requires c κs = search needs
+
+whole-digit-requires : tie.Need-whole-digit-requires
+whole-digit-requires c κs = search needs
 
 returns : tie.Need-returns
 unfolding wholeStep
@@ -13,12 +19,30 @@ returns-2 : tie.Need-returns-2
 unfolding wholeStep
 returns-2 c = search picks
 
-whole-digit-requires : tie.Need-whole-digit-requires
-whole-digit-requires c κs = search needs
-
 returns-3 : tie.Need-returns-3
 unfolding wholeStep
 returns-3 c = search picks
 
+is-mark-requires : tie.Need-is-mark-requires
+is-mark-requires c κs = search needs
+
+returns-4 : tie.Need-returns-4
+unfolding wholeStep
+returns-4 c = search picks
+
+returns-5 : tie.Need-returns-5
+unfolding wholeStep
+returns-5 c = search picks
+
 pub whole-step-spec : {M : Type 1} → statement M
-whole-step-spec = tie.close (tie.spec returns returns-2 whole-digit-requires returns-3)
+whole-step-spec =
+    tie.close
+    (tie.spec
+    is-digit-requires
+    whole-digit-requires
+    returns
+    returns-2
+    returns-3
+    is-mark-requires
+    returns-4
+    returns-5)

@@ -1,8 +1,9 @@
 -- `sized_as` is the definition, test by test.
 use native.Mathlib.Omega.{arith}
 use Rattle.number.specs.Scan.{sizedAs}
-use Rattle.number.proofs.Picks.{picks}
 use Rattle.number.proofs.CodeLaws.{size-told}
+use Rattle.number.proofs.Picks.{picks}
+use borrow.Author.Needs.{needs}
 use Rattle.number.proofs.whole.sized_as.Statement.{statement}
 use Rattle.number.proofs.whole.sized_as.Tie as tie
 
@@ -10,17 +11,20 @@ returns : tie.Need-returns
 unfolding sizedAs
 returns c = search picks
 
-cast-t4 : tie.Need-cast-t4
-cast-t4 c = omega arith
-
-returns-2 : tie.Need-returns-2
-returns-2 c = size-told (c .before .before .args .minus) (c .before .before .args .n) _ (c .before .if1 .left) (omega arith)
+shifted-requires : tie.Need-shifted-requires
+shifted-requires c κs = search needs
 
 cast-t5 : tie.Need-cast-t5
-cast-t5 c = omega arith
+cast-t5 c = search needs
+
+returns-2 : tie.Need-returns-2
+returns-2 c = size-told (c .before .before .before .before .args .minus) (c .before .before .before .before .args .d) _ (c .before .before .if1 .left) (let h = c .before .shifted .ensures in omega arith)
+
+cast-t6 : tie.Need-cast-t6
+cast-t6 c = search needs
 
 returns-3 : tie.Need-returns-3
-returns-3 c = size-told (c .before .before .args .minus) (c .before .before .args .n) _ (c .before .if1 .left) (omega arith)
+returns-3 c = size-told (c .before .before .before .before .args .minus) (c .before .before .before .before .args .d) _ (c .before .before .if1 .left) (let h = c .before .shifted .ensures in omega arith)
 
 pub sized-as-spec : {M : Type 1} → statement M
-sized-as-spec = tie.close (tie.spec returns cast-t4 returns-2 cast-t5 returns-3)
+sized-as-spec = tie.close (tie.spec returns shifted-requires cast-t5 returns-2 cast-t6 returns-3)

@@ -34,7 +34,7 @@ int-end-requires : tie.Need-int-end-requires
 int-end-requires c κs = search needs
 
 returns-3 : tie.Need-returns-3
-returns-3 c = walk-read (λ v q. paper q ≡ capped (intOf v)) WholeRead.Bad (c .before .before .before .before .walked .ensures) (c .before .before .w .given .1) (λ v e. ap paper (c .int-end .ensures ∙ ap intEnd e) ∙ int-exact v)
+returns-3 c = walk-read (λ v q. paper q ≡ capped (intOf v)) WholeRead.Bad (c .before .before .before .before .walked .ensures) (c .before .before .w .given .1) (λ v n e. ap paper (c .int-end .ensures ∙ ap intEnd e) ∙ int-exact v)
 
 pub int-at-spec : {M : Type 1} → statement M
 int-at-spec =

@@ -1,6 +1,7 @@
 -- A plain value is read where it stands, another by the walk.
 use borrow.Author.Needs.{needs}
 use mathlib.Core.Path.{_≡_, refl, ap, _∙_}
+use native.Mathlib.Omega.{arith}
 use Rattle.number.specs.Scan.{numberEnd}
 use Rattle.number.specs.Positive.{noNumber, numberOf, numberRead}
 use Rattle.number.proofs.Theorems.{number-exact}
@@ -34,7 +35,7 @@ number-end-requires : tie.Need-number-end-requires
 number-end-requires c κs = search needs
 
 returns-3 : tie.Need-returns-3
-returns-3 c = walk-read (λ v q. q ≡ numberRead (numberOf v)) (numberRead noNumber) (c .before .before .before .before .walked .ensures) (c .before .before .w .given .1) (λ v e. c .number-end .ensures ∙ ap numberEnd e ∙ number-exact v)
+returns-3 c = walk-read (λ v q. q ≡ numberRead (numberOf v)) (numberRead noNumber) (c .before .before .before .before .walked .ensures) (c .before .before .w .given .1) (λ v n e. c .number-end .ensures ∙ ap numberEnd e ∙ number-exact v (omega arith))
 
 pub number-at-spec : {M : Type 1} → statement M
 number-at-spec =

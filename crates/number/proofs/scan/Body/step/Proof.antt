@@ -1,8 +1,9 @@
 -- `Body::step` is the definition, case by case.
-use borrow.Author.Needs.{needs}
-use mathlib.Core.Path.{refl}
-use Rattle.number.specs.Scan.{bodyStep}
+use mathlib.Core.Path.{refl, ap, _∙_}
+use Rattle.number.specs.Scan.{partDigit, bodyStep}
+use Rattle.number.specs.declared.scan.Digits.{Digits}
 use Rattle.number.proofs.Picks.{known}
+use borrow.Author.Needs.{needs}
 use Rattle.number.proofs.scan.Body.step.Statement.{statement}
 use Rattle.number.proofs.scan.Body.step.Tie as tie
 
@@ -27,14 +28,35 @@ whole-step-requires c κs = search needs
 enum-told-2 : tie.Need-enum-told-2
 enum-told-2 c = search needs
 
+no-digits-requires : tie.Need-no-digits-requires
+no-digits-requires c κs = search needs
+
 part-digit-requires : tie.Need-part-digit-requires
 part-digit-requires c κs = search needs
 
 enum-known-self-3 : tie.Need-enum-known-self-3
 enum-known-self-3 c = search needs
 
-part-digit-requires-2 : tie.Need-part-digit-requires-2
-part-digit-requires-2 c κs = search needs
+part-step-requires : tie.Need-part-step-requires
+part-step-requires c κs = search needs
+
+enum-known-self-4 : tie.Need-enum-known-self-4
+enum-known-self-4 c = search needs
+
+mark-step-requires : tie.Need-mark-step-requires
+mark-step-requires c κs = search needs
+
+enum-known-self-5 : tie.Need-enum-known-self-5
+enum-known-self-5 c = search needs
+
+power-digit-requires : tie.Need-power-digit-requires
+power-digit-requires c κs = search needs
+
+enum-known-self-6 : tie.Need-enum-known-self-6
+enum-known-self-6 c = search needs
+
+power-digit-requires-2 : tie.Need-power-digit-requires-2
+power-digit-requires-2 c κs = search needs
 
 enum-told-3 : tie.Need-enum-told-3
 enum-told-3 c = search needs
@@ -53,15 +75,27 @@ returns-3 c = known (λ s. bodyStep s (c .before .before .before .before .args .
 
 returns-4 : tie.Need-returns-4
 unfolding bodyStep
-returns-4 c = known (λ s. bodyStep s (c .before .before .before .args .b)) (c .before .enum-told2 .given .1) (c .part-digit .ensures)
+returns-4 c = known (λ s. bodyStep s (c .before .before .before .before .args .b)) (c .before .before .enum-told2 .given .1) (c .part-digit .ensures ∙ ap (λ (d : Digits). partDigit d (c .before .before .before .before .args .b)) (c .before .no-digits .ensures))
 
 returns-5 : tie.Need-returns-5
 unfolding bodyStep
-returns-5 c = known (λ s. bodyStep s (c .before .before .before .before .args .b)) (c .before .before .self3 .given .1) (c .part-digit2 .ensures)
+returns-5 c = known (λ s. bodyStep s (c .before .before .before .before .args .b)) (c .before .before .self3 .given .1) (c .part-step .ensures)
 
 returns-6 : tie.Need-returns-6
 unfolding bodyStep
-returns-6 c = known (λ s. bodyStep s (c .before .before .args .b)) (c .enum-told3 .given .1) refl
+returns-6 c = known (λ s. bodyStep s (c .before .before .before .before .args .b)) (c .before .before .self4 .given .1) (c .mark-step .ensures)
+
+returns-7 : tie.Need-returns-7
+unfolding bodyStep
+returns-7 c = known (λ s. bodyStep s (c .before .before .before .before .args .b)) (c .before .before .self5 .given .1) (c .power-digit .ensures)
+
+returns-8 : tie.Need-returns-8
+unfolding bodyStep
+returns-8 c = known (λ s. bodyStep s (c .before .before .before .before .args .b)) (c .before .before .self6 .given .1) (c .power-digit2 .ensures)
+
+returns-9 : tie.Need-returns-9
+unfolding bodyStep
+returns-9 c = known (λ s. bodyStep s (c .before .before .args .b)) (c .enum-told3 .given .1) (refl)
 
 pub step-spec : {M : Type 1} → statement M
 step-spec =
@@ -74,13 +108,23 @@ step-spec =
     enum-known-self-2
     whole-step-requires
     enum-told-2
+    no-digits-requires
     part-digit-requires
     enum-known-self-3
-    part-digit-requires-2
+    part-step-requires
+    enum-known-self-4
+    mark-step-requires
+    enum-known-self-5
+    power-digit-requires
+    enum-known-self-6
+    power-digit-requires-2
     enum-told-3
     returns
     returns-2
     returns-3
     returns-4
     returns-5
-    returns-6)
+    returns-6
+    returns-7
+    returns-8
+    returns-9)

@@ -1,8 +1,8 @@
 -- `shifted` is the product, up to the top. The loop moves the power of ten into the number; the measure is what is left of it.
 use native.Mathlib.Omega.{arith}
 use Rattle.number.proofs.CodeLaws.{Shifting, shift-start, shift-more, shift-top, shift-end}
-use Rattle.number.proofs.positive.shifted.Statement.{statement}
-use Rattle.number.proofs.positive.shifted.Tie as tie
+use Rattle.number.proofs.tens.shifted.Statement.{statement}
+use Rattle.number.proofs.tens.shifted.Tie as tie
 
 abbrev Inv-loop : tie.InvT-loop
 Inv-loop n k m₀ left₀ m left = Shifting n k m left
