@@ -140,9 +140,10 @@ typedef struct {
     uint64_t there, start, len;
 } tryphomel_words;
 
-/* An int, or a measure in millionths: 160.5 is 160500000. */
+/* An int; or a measure in millionths, 160.50 is 160500000, and how many digits stand behind its point, 0 to 6. Sent, a measure has so many digits there,
+ * or as many as matter if that is more: 160000000 with 2 is written 160.00. Of an int `decimals` is 0 in a received message, and ignored in one to be sent. */
 typedef struct {
-    uint64_t there, value, spare;
+    uint64_t there, value, decimals;
 } tryphomel_number;
 
 /* SupportedFeatures: the sum of the TRYPHOMEL_FEATURE_ bits that stand in it. */
@@ -326,7 +327,14 @@ static inline tryphomel_number tryphomel_is(uint64_t value) {
     tryphomel_number n;
     n.there = 1;
     n.value = value;
-    n.spare = 0;
+    n.decimals = 0;
+    return n;
+}
+
+/* A measure with so many digits behind its point, at most 6. */
+static inline tryphomel_number tryphomel_measure(uint64_t millionths, uint64_t decimals) {
+    tryphomel_number n = tryphomel_is(millionths);
+    n.decimals = decimals;
     return n;
 }
 

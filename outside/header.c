@@ -15,7 +15,7 @@ FITS(lane_places, offsetof(tryphomel_lane, side) == 0 && offsetof(tryphomel_lane
 FITS(forecast_size, TRYPHOMEL_FORECAST_BYTES == 80 && TRYPHOMEL_SHORT_TEXT == 80);
 FITS(cells, sizeof(tryphomel_words) == 24 && sizeof(tryphomel_number) == 24 && sizeof(tryphomel_features) == 24);
 FITS(words, offsetof(tryphomel_words, there) == 0 && offsetof(tryphomel_words, start) == 8 && offsetof(tryphomel_words, len) == 16);
-FITS(number, offsetof(tryphomel_number, there) == 0 && offsetof(tryphomel_number, value) == 8 && offsetof(tryphomel_number, spare) == 16);
+FITS(number, offsetof(tryphomel_number, there) == 0 && offsetof(tryphomel_number, value) == 8 && offsetof(tryphomel_number, decimals) == 16);
 FITS(features, offsetof(tryphomel_features, there) == 0 && offsetof(tryphomel_features, bits) == 8 && offsetof(tryphomel_features, spare) == 16);
 FITS(numbers, TRYPHOMEL_CELLS == 24 && TRYPHOMEL_NUMBERS == 1 + 3 * TRYPHOMEL_CELLS && AT(kind, 0) && CELL(cells, 0) && CELL(cells[23], 23));
 FITS(service, CELL(service.machine, 0) && CELL(service.lane, 1) && CELL(service.version, 2) && CELL(service.features, 3));
@@ -106,7 +106,8 @@ static tryphomel_checked there_and_back(int line, int side, int state, tryphomel
 }
 
 static int is_text(tryphomel_words w, const char *text) { return w.there == 1 && w.len == strlen(text) && memcmp(out + w.start, text, w.len) == 0; }
-static int is_number(tryphomel_number n, uint64_t value) { return n.there == 1 && n.value == value && n.spare == 0; }
+static int is_measure(tryphomel_number n, uint64_t value, uint64_t decimals) { return n.there == 1 && n.value == value && n.decimals == decimals; }
+static int is_number(tryphomel_number n, uint64_t value) { return is_measure(n, value, 0); }
 static int is_set(tryphomel_features f, uint64_t bits) { return f.there == 1 && f.bits == bits && f.spare == 0; }
 
 /* A received message has that BoardId, in that cell. */
@@ -138,7 +139,7 @@ static void descriptions(void) {
     m.as.service.machine = put("P");
     m.as.service.version = put("1.0");
     m.as.service.features = tryphomel_supports(8 + TRYPHOMEL_FEATURE_FORECAST + TRYPHOMEL_FEATURE_SEND);
-    m.as.service.features.there = m.as.service.lane.there = m.as.service.lane.spare = 9;
+    m.as.service.features.there = m.as.service.lane.there = m.as.service.lane.decimals = 9;
     c = there_and_back(__LINE__, TRYPHOMEL_UPSTREAM, TRYPHOMEL_DESCRIBED_DOWN, m,
                        "<Hermes><ServiceDescription MachineId=\"P\" LaneId=\"7\" Version=\"1.0\"><SupportedFeatures><FeatureBoardForecast/>"
                        "<FeatureSendBoardInfo/></SupportedFeatures></ServiceDescription></Hermes>",
@@ -183,9 +184,9 @@ static void boards(void) {
     CHECK(is_board(&c.message, c.message.as.board.id) && none_from(&c.message, 17));
     CHECK(is_text(c.message.as.board.by, "Loader") && is_number(c.message.as.board.failed, 1) && is_text(c.message.as.board.product, "type 5"));
     CHECK(is_number(c.message.as.board.flipped, 2) && is_text(c.message.as.board.top, "T-77") && is_text(c.message.as.board.bottom, "B-88"));
-    CHECK(is_number(c.message.as.board.length, 160500000) && is_number(c.message.as.board.width, 2000000) && is_number(c.message.as.board.thickness, 1600000));
-    CHECK(is_number(c.message.as.board.speed, 4000000) && is_number(c.message.as.board.above, 25000001) && is_number(c.message.as.board.below, 6000000));
-    CHECK(is_number(c.message.as.board.weight, 500000) && is_text(c.message.as.board.order, "WO 9"));
+    CHECK(is_measure(c.message.as.board.length, 160500000, 1) && is_number(c.message.as.board.width, 2000000) && is_measure(c.message.as.board.thickness, 1600000, 1));
+    CHECK(is_number(c.message.as.board.speed, 4000000) && is_measure(c.message.as.board.above, 25000001, 6) && is_number(c.message.as.board.below, 6000000));
+    CHECK(is_measure(c.message.as.board.weight, 500000, 1) && is_text(c.message.as.board.order, "WO 9"));
     CHECK(is_number(c.message.as.board.route, 900) && is_text(c.message.as.board.batch, "lot 4"));
     CHECK(tryphomel_route_class(c.message.as.board.route.value) == TRYPHOMEL_ROUTE_RETURN);
     there_and_back(__LINE__, TRYPHOMEL_UPSTREAM, TRYPHOMEL_BOTH, tryphomel_blank(TRYPHOMEL_REVOKE_BOARD_AVAILABLE), "<Hermes><RevokeBoardAvailable/></Hermes>",
@@ -209,6 +210,27 @@ static int route_class(uint64_t n) {
     if (n == 999) return TRYPHOMEL_ROUTE_MANUAL_REMOVAL;
     if (n > 99) return TRYPHOMEL_ROUTE_RESERVED;
     return n ? TRYPHOMEL_ROUTE_NUMBERED : TRYPHOMEL_ROUTE_UNDEFINED;
+}
+
+/* A measure keeps the sender's digits: read, handed on, and as it is sent. */
+static void decimals(void) {
+    tryphomel_lane l = lane_in(TRYPHOMEL_DOWNSTREAM, TRYPHOMEL_BOTH);
+    tryphomel_message m = tryphomel_blank(TRYPHOMEL_START_TRANSPORT);
+    tryphomel_checked c;
+    tryphomel_sent s;
+    static const char want[] = "<Hermes><StartTransport BoardId=\"0123abcd-4567-89ef-0123-456789abcdef\" ConveyorSpeed=\"160.00\"/></Hermes>";
+    memcpy(l.offered, ID, TRYPHOMEL_ID_BYTES);
+    tryphomel_name_board(&m, ID);
+    m.as.transport.speed = tryphomel_measure(160000000, 7);
+    CHECK(tryphomel_lane_send(&l, &m, "", 0, out, sizeof out, &s) == TRYPHOMEL_BAD_VALUE && s.written == 0);
+    m.as.transport.speed = tryphomel_measure(160000000, 2);
+    CHECK(tryphomel_lane_send(&l, &m, "", 0, out, sizeof out, &s) == TRYPHOMEL_ACCEPTED && s.written == strlen(want) && memcmp(out, want, strlen(want)) == 0);
+    CHECK(tryphomel_message_check(want, strlen(want), &c) == TRYPHOMEL_ACCEPTED && is_measure(c.message.as.transport.speed, 160000000, 2));
+    m.as.transport.speed = tryphomel_measure(500000, 0);
+    l = lane_in(TRYPHOMEL_DOWNSTREAM, TRYPHOMEL_BOTH);
+    memcpy(l.offered, ID, TRYPHOMEL_ID_BYTES);
+    CHECK(tryphomel_lane_send(&l, &m, "", 0, out, sizeof out, &s) == TRYPHOMEL_ACCEPTED && tryphomel_message_check(out, s.written, &c) == TRYPHOMEL_ACCEPTED
+          && is_measure(c.message.as.transport.speed, 500000, 1));
 }
 
 static void routes(void) {
@@ -252,12 +274,12 @@ static void forecasts(void) {
                        " Weight=\"0.5\" WorkOrderId=\"WO 9\"/></Hermes>",
                        TRYPHOMEL_IDLE);
     CHECK(is_board(&c.message, c.message.as.forecast.id) && none_from(&c.message, 17));
-    CHECK(is_text(c.message.as.forecast.forecast, "F 7") && is_number(c.message.as.forecast.until, 12500000) && is_text(c.message.as.forecast.by, "Loader"));
+    CHECK(is_text(c.message.as.forecast.forecast, "F 7") && is_measure(c.message.as.forecast.until, 12500000, 1) && is_text(c.message.as.forecast.by, "Loader"));
     CHECK(is_number(c.message.as.forecast.failed, 1) && is_text(c.message.as.forecast.product, "type 5") && is_number(c.message.as.forecast.flipped, 2));
-    CHECK(is_text(c.message.as.forecast.top, "T-77") && is_text(c.message.as.forecast.bottom, "B-88") && is_number(c.message.as.forecast.length, 160500000));
-    CHECK(is_number(c.message.as.forecast.width, 2000000) && is_number(c.message.as.forecast.thickness, 1600000));
-    CHECK(is_number(c.message.as.forecast.speed, 4000000) && is_number(c.message.as.forecast.above, 25000001));
-    CHECK(is_number(c.message.as.forecast.below, 6000000) && is_number(c.message.as.forecast.weight, 500000) && is_text(c.message.as.forecast.order, "WO 9"));
+    CHECK(is_text(c.message.as.forecast.top, "T-77") && is_text(c.message.as.forecast.bottom, "B-88") && is_measure(c.message.as.forecast.length, 160500000, 1));
+    CHECK(is_number(c.message.as.forecast.width, 2000000) && is_measure(c.message.as.forecast.thickness, 1600000, 1));
+    CHECK(is_number(c.message.as.forecast.speed, 4000000) && is_measure(c.message.as.forecast.above, 25000001, 6));
+    CHECK(is_number(c.message.as.forecast.below, 6000000) && is_measure(c.message.as.forecast.weight, 500000, 1) && is_text(c.message.as.forecast.order, "WO 9"));
 }
 
 static void transports(void) {
@@ -712,6 +734,7 @@ int main(void) {
     descriptions();
     boards();
     routes();
+    decimals();
     forecasts();
     transports();
     handover();

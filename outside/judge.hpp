@@ -9,11 +9,11 @@
 #include "make.hpp"
 #include "peers.hpp"
 
-// What a cell says: whether the value is there; the number that an int, a measure or the features are; the text as read.
+// What a cell says: whether the value is there; the number that an int, a measure or the features are; the digits behind a measure's point; the text as read.
 struct Value {
-    uint64_t there = 0, number = 0;
+    uint64_t there = 0, number = 0, decimals = 0;
     std::string text;
-    bool operator==(const Value &o) const { return there == o.there && number == o.number && text == o.text; }
+    bool operator==(const Value &o) const { return there == o.there && number == o.number && decimals == o.decimals && text == o.text; }
 };
 
 // What is absent is zero, and so are the values behind the last row.
@@ -78,11 +78,13 @@ inline bool int_in(const std::string &v, unsigned low, unsigned high, uint64_t &
 
 // "Positive number: optional `+`, digits with at most one point, at least one digit. .."; order 2: with an exponent the limits apply to the number
 // written out. Its value is in millionths.
-inline bool positive(const std::string &v, uint64_t &out) {
+inline bool positive(const std::string &v, uint64_t &out, uint64_t &decimals) {
     static const std::regex form("[ \t\r\n]*\\+?([0-9]*)(?:\\.([0-9]*))?(?:[eE]([+-]?)([0-9]+))?[ \t\r\n]*");
     std::smatch m;
     if (!std::regex_match(v, m, form) || m.length(1) + m.length(2) == 0) return false;
     std::string whole = m[1], part = m[2], power = without_zeros(m[4]);
+    // order 6: the digits behind the point, up to 6; with an exponent none
+    decimals = m.length(4) ? 0 : std::min<size_t>(6, part.size());
     // no value of a message has so many digits that more zeros could be of use
     size_t places = power.size() > 5 ? 99999 : power.empty() ? 0 : std::stoul(power);
     if (m[3] == "-") {
@@ -103,13 +105,13 @@ inline bool positive(const std::string &v, uint64_t &out) {
 }
 
 // The refusal of one value: 0, 5 or 6.
-inline unsigned judged(const Column &c, const std::string &v, uint64_t &out) {
+inline unsigned judged(const Column &c, const std::string &v, uint64_t &out, uint64_t &decimals) {
     static const std::regex guid("[0-9a-f]{8}-[0-9a-f]{4}-[0-9a-f]{4}-[0-9a-f]{4}-[0-9a-f]{12}"), version("[0-9]{1,3}\\.[0-9]{1,3}");
     switch (c.type) {
         case 't': return v.size() > c.high ? 5 : 0;
         case 'n': return v.size() > c.high ? 5 : v.empty() ? 6 : 0;
         case 'i': return int_in(v, c.low, c.high, out) ? 0 : 6;
-        case 'p': return positive(v, out) ? 0 : 6;
+        case 'p': return positive(v, out, decimals) ? 0 : 6;
         case 'g': return std::regex_match(v, guid) ? 0 : 6;
         default: return std::regex_match(v, version) ? 0 : 6;
     }
@@ -131,13 +133,13 @@ inline Verdict verdict(const Tree &t) {
         auto found = c.values.find(column.name);
         if (found == c.values.end() && column.may_miss) continue;
         if (found == c.values.end()) return refused(4);
-        unsigned n = judged(column, found->second, v.values[i].number);
+        unsigned n = judged(column, found->second, v.values[i].number, v.values[i].decimals);
         if (n) return refused(n);
         v.values[i].there = 1;
         if (column.type == 'g') v.id = found->second;
         if (is_text(column.type)) v.values[i].text = found->second;
     }
     if (v.kind == 1 && !c.features) return refused(4);
-    if (v.kind == 1) v.values[3] = {1, c.bits, ""};
+    if (v.kind == 1) v.values[3] = {1, c.bits, 0, ""};
     return v;
 }

@@ -81,8 +81,8 @@ inline Bytes text_at(const Bytes &in, size_t at, size_t length) {
 
 // What a cell of a row of that type says.
 inline Value value_in(const Bytes &in, char type, const tryphomel_words &cell) {
-    if (is_text(type) && cell.there) return {cell.there, 0, text_at(in, cell.start, cell.len)};
-    return {cell.there, cell.start, cell.len ? "\1a third number" : ""};
+    if (is_text(type) && cell.there) return {cell.there, 0, 0, text_at(in, cell.start, cell.len)};
+    return {cell.there, cell.start, cell.len, ""};
 }
 
 // What a message says, of which its bytes are a part of `in`.

@@ -44,6 +44,10 @@ def board(*attributes, by="M"):
     return bare("BoardAvailable", ("BoardId", MIXED), ("BoardIdCreatedBy", by), ("FailedBoard", "0"), ("FlippedBoard", "0"), *attributes)
 
 
+def start(speed):
+    return bare("StartTransport", ("BoardId", MIXED), ("ConveyorSpeed", speed))
+
+
 MOST = "9999999.999999"
 
 MEANT = [
@@ -178,6 +182,23 @@ MEANT = [
         ("WorkOrderId", '"' * 80),
         ("Route", "65535"),
         ("BatchId", '"' * 80),
+    ),
+    start("160.00"),
+    start("160"),
+    start("0.5"),
+    start("0.500"),
+    start("1.000000"),
+    start("1.234567"),
+    start("9999999.000000"),
+    forecast(("TimeUntilAvailable", "12.0")),
+    board(
+        ("Length", "160.00"),
+        ("Width", "100.0"),
+        ("Thickness", "1.600"),
+        ("ConveyorSpeed", "250"),
+        ("TopClearanceHeight", "0.500000"),
+        ("BottomClearanceHeight", "0.000001"),
+        ("Weight", "82.25"),
     ),
 ]
 

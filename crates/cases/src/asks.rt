@@ -74,7 +74,12 @@ fn value(form: u64, there: u64, a: u64, b: u64, id: [u8; 36]) {
             put(b" ");
             put(&id);
         }
-        _ => told(b" ", a),
+        _ => {
+            told(b" ", a);
+            if 0 < b {
+                told(b"+", b);
+            }
+        }
     }
 }
 

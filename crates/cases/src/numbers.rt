@@ -42,6 +42,9 @@ fn class(r: WholeRead) {
 fn positive(r: NumberRead) {
     if r.ok {
         told(b"", r.millionths);
+        if 0 < r.decimals {
+            told(b"+", r.decimals);
+        }
         put(b"\n");
     } else {
         put(b"bad\n");

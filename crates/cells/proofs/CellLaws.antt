@@ -30,9 +30,9 @@ module _ {t x : ℕ} (e : t ≡ x) (h : t ≡ 0) where
   unfolding wholeBy
   no-whole y = sym (ap (λ (b : Bool). cond b (IsWhole y) NoWhole) (absent e h))
 
-  pub no-measure : (y : ℕ) → NoMeasure ≡ measureBy x y
+  pub no-measure : (y z : ℕ) → NoMeasure ≡ measureBy x y z
   unfolding measureBy
-  no-measure y = sym (ap (λ (b : Bool). cond b (IsMeasure y) NoMeasure) (absent e h))
+  no-measure y z = sym (ap (λ (b : Bool). cond b (IsMeasure y z) NoMeasure) (absent e h))
 
   pub no-guid : (id : Bytes) → noId ≡ guidBy x id
   unfolding guidBy
@@ -47,9 +47,9 @@ module _ {t x : ℕ} (e : t ≡ x) (h : t ≡ 0 → ⊥) where
   unfolding wholeBy
   the-whole {a} {y} p = rw p (sym (ap (λ (b : Bool). cond b (IsWhole y) NoWhole) (present e h)))
 
-  pub the-measure : {a y : ℕ} → a ≡ y → IsMeasure a ≡ measureBy x y
+  pub the-measure : {a y b z : ℕ} → a ≡ y → b ≡ z → IsMeasure a b ≡ measureBy x y z
   unfolding measureBy
-  the-measure {a} {y} p = rw p (sym (ap (λ (b : Bool). cond b (IsMeasure y) NoMeasure) (present e h)))
+  the-measure {a} {y} {b} {z} p q = rw (p, q) (sym (ap (λ (t : Bool). cond t (IsMeasure y z) NoMeasure) (present e h)))
 
   pub the-guid : (id : Bytes) → _≡_ {A = Guid} (record { there = true; bytes = id }) (guidBy x id)
   unfolding guidBy

@@ -15,7 +15,7 @@ use Rattle.model.specs.Theorems.{answers-only}
 use Rattle.reader.specs.Answer.{paper as answerPaper}
 use Rattle.reader.specs.declared.answer.Answer.{Answer as Read}
 use Rattle.number.specs.Whole.{intOf, capped, paper as intPaper}
-use Rattle.number.specs.Positive.{numberOf, numberRead}
+use Rattle.number.specs.Positive.{Number, numberOf, decimalsOf, numberRead}
 use Rattle.number.specs.declared.whole.WholeRead.{WholeRead}
 use Rattle.number.specs.declared.positive.NumberRead.{NumberRead}
 use Rattle.lane.specs.Record.{blank, received}
@@ -58,7 +58,7 @@ Carried (says s end kind) =
     × ((l : Lane) (rest old new : Bytes) (r : Received) → Receives l (text s ++ rest) old new r → 525 ≤ length old
     → (r .refusal ≡ 0) × (r .lane ≡ passed l .lane) × (r .used ≡ end) × (r .message .kind ≡ kind))
 Carried (whole s x) = (r : WholeRead) → intPaper r ≡ capped (intOf (text s)) → intPaper r ≡ capped x
-Carried (positive s x) = (r : NumberRead) → r ≡ numberRead (numberOf (text s)) → r ≡ numberRead x
+Carried (positive s x) = (r : NumberRead) → r ≡ numberRead (numberOf (text s)) (decimalsOf (text s)) → r ≡ numberRead x (decimalsOf (text s))
 Carried (receives l s v) =
     (rest old new : Bytes) (r : Received) → Receives l (text s ++ rest) old new r → 525 ≤ length old
     → (r .refusal ≡ v .refusal) × (r .lane ≡ v .lane) × (r .order ≡ v .order) × (r .used ≡ length (text s))
@@ -122,7 +122,7 @@ carried (says s end kind) (n, pass) (e, l, k, z) = (check-of, receive-of)
         let (a, b, c, d) = in-lane p room (passed w) (f .refusal ∙ z) (pass w (all.event p) (f .kind ∙ k)) in
         (a, b, d ∙ f .end ∙ l, ap (λ (m : Message). m .kind) (all.accepts p a .message) ∙ f .kind ∙ k)
 carried (whole s x) n e = λ r h. h ∙ ap capped e
-carried (positive s x) n e = λ r h. h ∙ ap numberRead e
+carried (positive s x) n e = λ r h. h ∙ ap (λ (y : Number). numberRead y (decimalsOf (text s))) e
 carried (receives l s v) n (e, z, g) = λ rest old new r p room.
     let f = finds rest (whole-message (text s) e) n (p .checks) z in
     let (a, b, c, d) = in-lane p room v (f .refusal ∙ z) (ap (λ (m : Message). received l (eventOf m (p .forecast))) (f .message) ∙ g (f .place) (p .forecast)) in

@@ -1,14 +1,15 @@
 -- Which refusals the attribute table gives: 0, 4, 5 or 6, in reading and in sending.
+use Rattle.spelling.specs.Written.{matter}
 use mathlib.Core.Path.{_≡_, refl, sym, ap, _∙_}
 use mathlib.Core.List.{List, [], _∷_}
 use mathlib.Core.Bool.{Bool, true, false, _&&_, not, cond}
-use Prim.Native.Nat.{ℕ, zero, suc}
+use Prim.Native.Nat.{ℕ, zero, suc, max}
 use lib.ListN.{length}
 use lib.Dec.{leb}
 use Rattle.grammar.specs.Bytes.{Bytes, nonEmpty, same, within}
 use Rattle.grammar.specs.Tree.{Pair, Tree, tree, Forest, no-trees, tree-then}
 use Rattle.number.specs.Whole.{Whole as Int, noInt, int, intOf}
-use Rattle.number.specs.Positive.{Number, noNumber, number, numberOf}
+use Rattle.number.specs.Positive.{Number, noNumber, number, numberOf, decimalsOf, BEHIND}
 use Rattle.number.specs.Guid.{guidOf}
 use Rattle.number.specs.Version.{versionOf}
 use Rattle.lane.specs.Chart.{among}
@@ -54,9 +55,9 @@ ranged-fine : (lo hi : ℕ) (i : Int) → Fine (ranged lo hi i)
 ranged-fine lo hi noInt = bad-fine
 ranged-fine lo hi (int minus n) = when-fine (not minus && within lo hi n) (anInt n)
 
-measured-fine : (n : Number) → Fine (measured n)
-measured-fine noNumber = bad-fine
-measured-fine (number n) = present-fine (millionths n)
+measured-fine : (n : Number) (d : ℕ) → Fine (measured n d)
+measured-fine noNumber d = bad-fine
+measured-fine (number n) d = present-fine (millionths n d)
 
 judged-fine : (t : Form) (v : Bytes) → Fine (judged t v)
 unfolding judged
@@ -65,7 +66,7 @@ judged-fine (someWords n) v = either-fine (leb (length v) n) (when-fine (nonEmpt
 judged-fine (whole lo hi) v = ranged-fine lo hi (intOf v)
 judged-fine guid v = when-fine (guidOf v) (anId v)
 judged-fine version v = when-fine (versionOf v) (aText v)
-judged-fine positive v = measured-fine (numberOf v)
+judged-fine positive v = measured-fine (numberOf v) (decimalsOf v)
 judged-fine features v = bad-fine
 
 given-fine : (t : Form) (o : Bool) (n : Bytes) (l : List Pair) → Fine (given t o n l)
@@ -123,14 +124,14 @@ whole-fine version k = bad-fine
 whole-fine positive k = bad-fine
 whole-fine features k = bad-fine
 
-measure-fine : (t : Form) (x : ℕ) → Fine (measureMeant t x)
-measure-fine (words n) x = bad-fine
-measure-fine (someWords n) x = bad-fine
-measure-fine (whole lo hi) x = bad-fine
-measure-fine guid x = bad-fine
-measure-fine version x = bad-fine
-measure-fine positive x = when-fine (within 1 MOST x) (millionths x)
-measure-fine features x = bad-fine
+measure-fine : (t : Form) (x d : ℕ) → Fine (measureMeant t x d)
+measure-fine (words n) x d = bad-fine
+measure-fine (someWords n) x d = bad-fine
+measure-fine (whole lo hi) x d = bad-fine
+measure-fine guid x d = bad-fine
+measure-fine version x d = bad-fine
+measure-fine positive x d = when-fine (within 1 MOST x && leb d BEHIND) (millionths x (max d (matter x)))
+measure-fine features x d = bad-fine
 
 id-fine : (t : Form) (v : Bytes) → Fine (idMeant t v)
 id-fine (words n) v = bad-fine
@@ -157,7 +158,7 @@ as-fine t (aWords (IsWords p)) texts o = text-fine t texts p
 as-fine t (aWhole NoWhole) texts o = without-fine o
 as-fine t (aWhole (IsWhole k)) texts o = whole-fine t k
 as-fine t (aMeasure NoMeasure) texts o = without-fine o
-as-fine t (aMeasure (IsMeasure x)) texts o = measure-fine t x
+as-fine t (aMeasure (IsMeasure x d)) texts o = measure-fine t x d
 as-fine t (aGuid g) texts o = either-fine (g .there) (id-fine t (g .bytes)) (without-fine o)
 as-fine t (aFeatures f) texts o = either-fine (f .there) (features-fine t f) (without-fine o)
 

@@ -7,7 +7,7 @@ use native.Mathlib.Omega.{arith}
 use lib.ListN.{length}
 use lib.Dec.{leb}
 use Rattle.number.specs.Whole.{Whole, noInt, int, intOf}
-use Rattle.number.specs.Positive.{number, Number, noNumber, numberOf}
+use Rattle.number.specs.Positive.{number, Number, noNumber, numberOf, decimalsOf}
 use Rattle.number.specs.Guid.{guidOf}
 use Rattle.number.specs.Version.{versionOf}
 use Rattle.grammar.specs.Bytes.{Bytes, within, nonEmpty, same}
@@ -31,9 +31,9 @@ ranged-is : (lo hi : ℕ) (x : Whole) → Refusal (refusalIn (ranged lo hi x))
 ranged-is lo hi noInt = refuses (omega arith) (omega arith)
 ranged-is lo hi (int minus n) = when-is (not minus && within lo hi n) (anInt n)
 
-measured-is : (x : Number) → Refusal (refusalIn (measured x))
-measured-is noNumber = refuses (omega arith) (omega arith)
-measured-is (number n) = none-of-it refl
+measured-is : (x : Number) (d : ℕ) → Refusal (refusalIn (measured x d))
+measured-is noNumber d = refuses (omega arith) (omega arith)
+measured-is (number n) d = none-of-it refl
 
 judged-is : (f : Form) (v : Bytes) → Refusal (refusalIn (judged f v))
 unfolding judged
@@ -50,7 +50,7 @@ judged-is (someWords n) v = go (leb (length v) n)
 judged-is (whole lo hi) v = ranged-is lo hi (intOf v)
 judged-is guid v = when-is (guidOf v) (anId v)
 judged-is version v = when-is (versionOf v) (aText v)
-judged-is positive v = measured-is (numberOf v)
+judged-is positive v = measured-is (numberOf v) (decimalsOf v)
 judged-is features v = refuses (omega arith) (omega arith)
 
 given-is : (f : Form) (o : Bool) (n : Bytes) (l : List Pair) → Refusal (refusalIn (given f o n l))

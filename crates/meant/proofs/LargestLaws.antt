@@ -36,7 +36,7 @@ largestField (someWords n) = aWords (IsWords (record { start = 0; len = n }))
 largestField (whole lo hi) = aWhole (IsWhole hi)
 largestField guid = aGuid (record { there = true; bytes = text "01234567-89ab-cdef-0123-456789abcdef" })
 largestField version = none
-largestField positive = aMeasure (IsMeasure 9999999999999)
+largestField positive = aMeasure (IsMeasure 9999999999999 0)
 largestField features = none
 
 abbrev largestFields : List Row → List Field

@@ -2,7 +2,7 @@
 use mathlib.Core.Path.{_≡_, refl}
 use mathlib.Core.List.{[], _++_}
 use mathlib.Core.Bool.{Bool, true, false, _&&_, cond}
-use Prim.Native.Nat.{ℕ, _+_, _*_, _≤_}
+use Prim.Native.Nat.{ℕ, _+_, _*_, _≤_, max}
 use native.Mathlib.Omega.{arith}
 use lib.ListN.{length, drop, length-drop}
 use lib.Seq.{length-take-le}
@@ -10,13 +10,14 @@ use lib.Dec.{leb}
 use borrow.Author.Tests.{leb-true}
 use Rattle.grammar.specs.Bytes.{Bytes, text, nonEmpty, within}
 use Rattle.model.specs.Tests.{and-left, and-right, in-range}
+use Rattle.number.specs.Positive.{BEHIND}
 use Rattle.number.specs.Guid.{guidOf}
 use Rattle.number.specs.Version.{versionOf}
 use Rattle.printing.specs.Digits.{printInt}
-use Rattle.spelling.specs.Written.{escape, printDecimal}
+use Rattle.spelling.specs.Written.{escape, matter, printDecimal}
 use Rattle.spelling.specs.Characters.{IsText}
 use Rattle.spelling.specs.Decided.{isText}
-use Rattle.spelling.proofs.Theorems.{text-decided, int-as-is, decimal-as-is, guid-as-is, int-inverse, decimal-inverse, escape-long}
+use Rattle.spelling.proofs.Theorems.{text-decided, int-as-is, decimal-as-is, guid-as-is, int-inverse, decimal-inverse, decimals-inverse, escape-long}
 use Rattle.value.specs.declared.text.Span.{Span}
 use Rattle.value.specs.declared.text.Words.the-variants.{Absent as NoWords, Present as IsWords}
 use Rattle.table.specs.Table.{Form, words, someWords, whole, guid, version, positive, features, Need, required, optional, requiredWith, ignored}
@@ -111,18 +112,19 @@ whole-worth version k h = absurd (omega arith)
 whole-worth positive k h = absurd (omega arith)
 whole-worth features k h = absurd (omega arith)
 
-pub measure-worth : (t : Form) (x : ℕ) → refusalIn (measureMeant t x) ≡ 0 → Worth t (printDecimal x) (measureMeant t x)
+pub measure-worth : (t : Form) (x d : ℕ) → refusalIn (measureMeant t x d) ≡ 0 → Worth t (printDecimal x d) (measureMeant t x d)
 unfolding judged
-measure-worth (words n) x h = absurd (omega arith)
-measure-worth (someWords n) x h = absurd (omega arith)
-measure-worth (whole lo hi) x h = absurd (omega arith)
-measure-worth guid x h = absurd (omega arith)
-measure-worth version x h = absurd (omega arith)
-measure-worth positive x h =
-    let g = when-good (within 1 MOST x) (millionths x) h in
-    let (a, b) = in-range 1 MOST x g in
-    record { is-text = decimal-as-is x .is-text; plain = refl; worth = rw (decimal-inverse x a b, g); small = decimal-width x b }
-measure-worth features x h = absurd (omega arith)
+measure-worth (words n) x d h = absurd (omega arith)
+measure-worth (someWords n) x d h = absurd (omega arith)
+measure-worth (whole lo hi) x d h = absurd (omega arith)
+measure-worth guid x d h = absurd (omega arith)
+measure-worth version x d h = absurd (omega arith)
+measure-worth positive x d h =
+    let g = when-good (within 1 MOST x && leb d BEHIND) (millionths x (max d (matter x))) h in
+    let (a, b) = in-range 1 MOST x (and-left (within 1 MOST x) (leb d BEHIND) g) in
+    let l = leb-true d BEHIND (and-right (within 1 MOST x) (leb d BEHIND) g) in
+    record { is-text = decimal-as-is x d .is-text; plain = refl; worth = rw (decimal-inverse x d a b, decimals-inverse x d l, g); small = decimal-width x d b }
+measure-worth features x d h = absurd (omega arith)
 
 pub id-worth : (t : Form) (v : Bytes) → refusalIn (idMeant t v) ≡ 0 → Worth t v (idMeant t v)
 unfolding judged
@@ -175,7 +177,7 @@ puts t n (aWords (IsWords p)) texts opt h = puts-value (textAt texts p) (textMea
 puts t n (aWhole NoWhole) texts opt h = puts-none refl refl refl (λ o. refl)
 puts t n (aWhole (IsWhole k)) texts opt h = puts-value (printInt k) (wholeMeant t k) refl refl refl (λ o. refl) (whole-worth t k h)
 puts t n (aMeasure NoMeasure) texts opt h = puts-none refl refl refl (λ o. refl)
-puts t n (aMeasure (IsMeasure x)) texts opt h = puts-value (printDecimal x) (measureMeant t x) refl refl refl (λ o. refl) (measure-worth t x h)
+puts t n (aMeasure (IsMeasure x d)) texts opt h = puts-value (printDecimal x d) (measureMeant t x d) refl refl refl (λ o. refl) (measure-worth t x d h)
 puts t n (aGuid g) texts opt h = guid-puts t n (g .there) (g .bytes) texts opt h
 puts t n (aFeatures f) texts opt h = features-puts t n (f .there) (f .forecast) (f .query) (f .send) texts opt h
 

@@ -76,8 +76,8 @@ as-long {v} a h = let e : length (escape v) ≡ length v = ap length (a .same) i
 pub int-width : (n hi : ℕ) → n ≤ hi → length (escape (printInt n)) ≤ digitsTo hi
 int-width n hi h = as-long (int-as-is n) (int-to n hi h)
 
-pub decimal-width : (x : ℕ) → x ≤ 9999999999999 → length (escape (printDecimal x)) ≤ 14
-decimal-width x h = as-long (decimal-as-is x) (decimal-long x h)
+pub decimal-width : (x d : ℕ) → x ≤ 9999999999999 → length (escape (printDecimal x d)) ≤ 14
+decimal-width x d h = as-long (decimal-as-is x d) (decimal-long x d h)
 
 pub guid-width : (v : Bytes) → guidOf v ≡ true → length (escape v) ≤ 36
 guid-width v h = as-long (guid-as-is v h) (let e = id-long v refl h in omega arith)

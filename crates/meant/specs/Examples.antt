@@ -35,7 +35,7 @@ abbrev int : ℕ → Field
 int n = aWhole (IsWhole n)
 
 abbrev size : ℕ → Field
-size n = aMeasure (IsMeasure n)
+size n = aMeasure (IsMeasure n 0)
 
 abbrev id : String → Field
 id s = aGuid (record { there = true; bytes = text s })
@@ -86,6 +86,14 @@ pub others :
 unfolding messageFrom fieldsOf table attributesOf attributeOf childrenOf childOf escape escapeByte printInt digitsOf printDecimal places behindPoint dropBack keepBefore withZeros cellsOf fieldsFrom fieldBy wordsBy wholeBy measureBy guidBy featuresBy
 others = (refl, refl, refl, refl, refl, refl, refl, refl)
 
+-- order 6: "The writer pads to that many digits, never cutting a digit that matters."
+pub padding :
+    Writes 7 (id "00000000-0000-0000-0000-00000000000a" ∷ aMeasure (IsMeasure 160000000 2) ∷ []) "" "<Hermes><StartTransport BoardId=\"00000000-0000-0000-0000-00000000000a\" ConveyorSpeed=\"160.00\"/></Hermes>"
+    × Writes 7 (id "00000000-0000-0000-0000-00000000000a" ∷ aMeasure (IsMeasure 500000 0) ∷ []) "" "<Hermes><StartTransport BoardId=\"00000000-0000-0000-0000-00000000000a\" ConveyorSpeed=\"0.5\"/></Hermes>"
+    × Writes 7 (id "00000000-0000-0000-0000-00000000000a" ∷ aMeasure (IsMeasure 1000000 6) ∷ []) "" "<Hermes><StartTransport BoardId=\"00000000-0000-0000-0000-00000000000a\" ConveyorSpeed=\"1.000000\"/></Hermes>"
+unfolding messageFrom fieldsOf table attributesOf attributeOf childrenOf childOf escape escapeByte printInt digitsOf printDecimal places behindPoint dropBack keepBefore withZeros cellsOf fieldsFrom fieldBy wordsBy wholeBy measureBy guidBy featuresBy
+padding = (refl, refl, refl)
+
 -- "D is `malformed message`, .. for 2, 3, 4, 5, 6, 9"
 pub notices :
     (notice 2 ≡ text "<Hermes><Notification NotificationCode=\"1\" Severity=\"1\" Description=\"malformed message\"/></Hermes>")
@@ -108,12 +116,16 @@ pub sizes :
     × (wholeMeant (whole 1 2) 1 ≡ present (anInt 1))
     × (wholeMeant (whole 1 2) 2 ≡ present (anInt 2))
     × (wholeMeant (whole 1 2) 3 ≡ refused 6)
-    × (measureMeant positive 0 ≡ refused 6)
-    × (measureMeant positive 1 ≡ present (millionths 1))
-    × (measureMeant positive 9999999999999 ≡ present (millionths 9999999999999))
-    × (measureMeant positive 10000000000000 ≡ refused 6)
-unfolding within
-sizes = (refl, refl, refl, refl, refl, refl, refl, refl)
+    × (measureMeant positive 0 0 ≡ refused 6)
+    × (measureMeant positive 1 0 ≡ present (millionths 1 6))
+    × (measureMeant positive 9999999999999 0 ≡ present (millionths 9999999999999 6))
+    × (measureMeant positive 10000000000000 0 ≡ refused 6)
+    × (measureMeant positive 160000000 2 ≡ present (millionths 160000000 2))
+    × (measureMeant positive 500000 0 ≡ present (millionths 500000 1))
+    × (measureMeant positive 1000000 6 ≡ present (millionths 1000000 6))
+    × (measureMeant positive 1000000 7 ≡ refused 6)
+unfolding within places dropBack keepBefore
+sizes = (refl, refl, refl, refl, refl, refl, refl, refl, refl, refl, refl, refl)
 
 -- texts: 5 by the length, whatever stands there; then 6 for a place that runs outside, for bytes that are no text, and for no bytes where
 -- some must stand
@@ -166,7 +178,7 @@ with-another = (refl, refl, refl, refl)
 pub without-another :
     (refusedIn info 1 (noBoard ∷ aWords NoWords ∷ size 500000 ∷ []) [] ≡ 0)
     × (refusedIn info 1 (noBoard ∷ part 7 300 ∷ size 500000 ∷ []) [] ≡ 0)
-    × (meantIn info 1 (noBoard ∷ part 7 300 ∷ size 500000 ∷ []) [] ≡ absent ∷ absent ∷ present (millionths 500000) ∷ [])
+    × (meantIn info 1 (noBoard ∷ part 7 300 ∷ size 500000 ∷ []) [] ≡ absent ∷ absent ∷ present (millionths 500000 1) ∷ [])
     × (writtenIn info 1 (noBoard ∷ part 7 300 ∷ size 500000 ∷ []) [] ≡ text "<Hermes><Info Weight=\"0.5\"/></Hermes>")
     × (refusedIn info 1 (noBoard ∷ part 7 300 ∷ size 0 ∷ []) [] ≡ 6)
 unfolding meantOf meantBy within attributesOf attributeOf childrenOf childOf escape escapeByte printInt digitsOf printDecimal places behindPoint dropBack keepBefore

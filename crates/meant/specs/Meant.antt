@@ -2,12 +2,14 @@
 use mathlib.Core.Path.{_≡_}
 use mathlib.Core.List.{List, [], _∷_}
 use mathlib.Core.Bool.{Bool, true, false, _&&_, _||_, cond}
-use Prim.Native.Nat.{ℕ, _+_}
+use Prim.Native.Nat.{ℕ, _+_, max}
 use lib.ListN.{length, take, drop}
 use lib.Dec.{eqb, leb}
 use Rattle.grammar.specs.Bytes.{Bytes, nonEmpty, within, same}
+use Rattle.number.specs.Positive.{BEHIND}
 use Rattle.number.specs.Guid.{guidOf}
 use Rattle.number.specs.Version.{versionOf}
+use Rattle.spelling.specs.Written.{matter}
 use Rattle.spelling.specs.Decided.{isText}
 use Rattle.value.specs.declared.text.Span.{Span}
 use Rattle.value.specs.declared.text.Words.{Words}
@@ -54,14 +56,15 @@ wholeMeant features k = refused BAD
 abbrev pub MOST : ℕ
 MOST = 9_999_999_999_999
 
-abbrev pub measureMeant : Form → ℕ → Result
-measureMeant (words n) x = refused BAD
-measureMeant (someWords n) x = refused BAD
-measureMeant (whole lo hi) x = refused BAD
-measureMeant guid x = refused BAD
-measureMeant version x = refused BAD
-measureMeant positive x = when (within 1 MOST x) (millionths x)
-measureMeant features x = refused BAD
+-- order 6: "a count above 6 given to the writer is 6"; a measure with the count d means d digits behind the point, or as many as matter
+abbrev pub measureMeant : Form → ℕ → ℕ → Result
+measureMeant (words n) x d = refused BAD
+measureMeant (someWords n) x d = refused BAD
+measureMeant (whole lo hi) x d = refused BAD
+measureMeant guid x d = refused BAD
+measureMeant version x d = refused BAD
+measureMeant positive x d = when (within 1 MOST x && leb d BEHIND) (millionths x (max d (matter x)))
+measureMeant features x d = refused BAD
 
 abbrev pub idMeant : Form → Bytes → Result
 idMeant (words n) v = refused BAD
@@ -89,7 +92,7 @@ meantAs t (aWords (IsWords p)) texts opt = textMeant t texts p
 meantAs t (aWhole NoWhole) texts opt = without opt
 meantAs t (aWhole (IsWhole k)) texts opt = wholeMeant t k
 meantAs t (aMeasure NoMeasure) texts opt = without opt
-meantAs t (aMeasure (IsMeasure x)) texts opt = measureMeant t x
+meantAs t (aMeasure (IsMeasure x d)) texts opt = measureMeant t x d
 meantAs t (aGuid g) texts opt = cond (g .there) (idMeant t (g .bytes)) (without opt)
 meantAs t (aFeatures f) texts opt = cond (f .there) (featuresMeant t f) (without opt)
 
@@ -115,7 +118,7 @@ isGiven (aWords (IsWords p)) = true
 isGiven (aWhole NoWhole) = false
 isGiven (aWhole (IsWhole k)) = true
 isGiven (aMeasure NoMeasure) = false
-isGiven (aMeasure (IsMeasure x)) = true
+isGiven (aMeasure (IsMeasure x d)) = true
 isGiven (aGuid g) = g .there
 isGiven (aFeatures f) = false
 

@@ -27,7 +27,7 @@ attributeOf n (aWords (IsWords p)) texts = attribute n (textAt texts p)
 attributeOf n (aWhole NoWhole) texts = []
 attributeOf n (aWhole (IsWhole k)) texts = attribute n (printInt k)
 attributeOf n (aMeasure NoMeasure) texts = []
-attributeOf n (aMeasure (IsMeasure x)) texts = attribute n (printDecimal x)
+attributeOf n (aMeasure (IsMeasure x d)) texts = attribute n (printDecimal x d)
 attributeOf n (aGuid g) texts = cond (g .there) (attribute n (g .bytes)) []
 attributeOf n (aFeatures f) texts = []
 

@@ -107,7 +107,7 @@ cell-back (aWords (IsWords p)) id rest h e = refl
 cell-back (aWhole NoWhole) id rest h e = refl
 cell-back (aWhole (IsWhole n)) id rest h e = refl
 cell-back (aMeasure NoMeasure) id rest h e = refl
-cell-back (aMeasure (IsMeasure n)) id rest h e = refl
+cell-back (aMeasure (IsMeasure n d)) id rest h e = refl
 cell-back (aGuid g) id rest h e = go (g .there) (g .bytes) (ap (λ (l : List Bytes). getD l 0 []) e)
   where
     go : (b : Bool) (v : Bytes) → cond b v (noId .bytes) ≡ id → aGuid (cond (isThere (flag b)) (record { there = true; bytes = id }) noId) ≡ aGuid (cond b (record { there = b; bytes = v }) noId)
@@ -138,7 +138,7 @@ cell-long (aWords (IsWords p)) = refl
 cell-long (aWhole NoWhole) = refl
 cell-long (aWhole (IsWhole n)) = refl
 cell-long (aMeasure NoMeasure) = refl
-cell-long (aMeasure (IsMeasure n)) = refl
+cell-long (aMeasure (IsMeasure n d)) = refl
 cell-long (aGuid g) = refl
 cell-long (aFeatures f) = refl
 
@@ -207,7 +207,7 @@ bare-id absent = refl
 bare-id (refused n) = refl
 bare-id (present (aText v)) = refl
 bare-id (present (anInt n)) = refl
-bare-id (present (millionths n)) = refl
+bare-id (present (millionths n d)) = refl
 bare-id (present (anId v)) = refl
 bare-id (present (noted a b c)) = refl
 
@@ -216,7 +216,7 @@ bare-features absent = refl
 bare-features (refused n) = refl
 bare-features (present (aText v)) = refl
 bare-features (present (anInt n)) = refl
-bare-features (present (millionths n)) = refl
+bare-features (present (millionths n d)) = refl
 bare-features (present (anId v)) = refl
 bare-features (present (noted a b c)) = refl
 

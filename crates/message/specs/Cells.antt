@@ -1,6 +1,6 @@
 -- The values of a message as numbers: a cell of three for each row of its kind, in table order, and apart from them its BoardId. The first number of a
--- cell is 0 if the value is absent. Then follow: of a text its place and its length; of an int or a positive number its value; of the features their
--- bits 1, 2 and 4.
+-- cell is 0 if the value is absent. Then follow: of a text its place and its length; of an int its value; of a positive number its millionths and
+-- the digits behind its point; of the features their bits 1, 2 and 4.
 use mathlib.Core.List.{List, [], _∷_, _++_}
 use mathlib.Core.Bool.{Bool, true, false, _&&_, not, cond}
 use Prim.Native.Nat.{ℕ, _+_, _*_, _/_, _%_}
@@ -40,8 +40,8 @@ wordsBy t a b = cond (isThere t) (IsWords (record { start = a; len = b })) NoWor
 unfoldable pub wholeBy : ℕ → ℕ → Whole
 wholeBy t a = cond (isThere t) (IsWhole a) NoWhole
 
-unfoldable pub measureBy : ℕ → ℕ → Measure
-measureBy t a = cond (isThere t) (IsMeasure a) NoMeasure
+unfoldable pub measureBy : ℕ → ℕ → ℕ → Measure
+measureBy t a b = cond (isThere t) (IsMeasure a b) NoMeasure
 
 unfoldable pub guidBy : ℕ → Bytes → Guid
 guidBy t id = cond (isThere t) (record { there = true; bytes = id }) noId
@@ -56,7 +56,7 @@ fieldBy (someWords n) t a b id = aWords (wordsBy t a b)
 fieldBy (whole lo hi) t a b id = aWhole (wholeBy t a)
 fieldBy guid t a b id = aGuid (guidBy t id)
 fieldBy version t a b id = aWords (wordsBy t a b)
-fieldBy positive t a b id = aMeasure (measureBy t a)
+fieldBy positive t a b id = aMeasure (measureBy t a b)
 fieldBy features t a b id = aFeatures (featuresBy t a)
 
 -- the number that stands there; 0 behind the end
@@ -83,7 +83,7 @@ wholeCell (IsWhole n) = 1 ∷ n ∷ 0 ∷ []
 
 abbrev pub measureCell : Measure → List ℕ
 measureCell NoMeasure = 0 ∷ 0 ∷ 0 ∷ []
-measureCell (IsMeasure n) = 1 ∷ n ∷ 0 ∷ []
+measureCell (IsMeasure n d) = 1 ∷ n ∷ d ∷ []
 
 abbrev pub guidCell : Guid → List ℕ
 guidCell g = flag (g .there) ∷ 0 ∷ 0 ∷ []

@@ -7,7 +7,7 @@ use Prim.Native.String.{String}
 use lib.ListN.{length, replicate}
 use Rattle.number.specs.Bytes.{blank, digit, hex, nonEmpty, all, dropFront, keepBefore, dropBack, trim, valueFrom, before, behind, pointed}
 use Rattle.number.specs.Whole.{sized, signed, intOf}
-use Rattle.number.specs.Positive.{written, short, above, millionths as decimals, decimal, unsigned, parted, numberOf}
+use Rattle.number.specs.Positive.{written, short, above, millionths as decimals, decimal, unsigned, parted, numberOf, decimalsOf}
 use Rattle.number.specs.Guid.{may, filled, guidOf}
 use Rattle.number.specs.Version.{oneToThree, versionOf}
 use Rattle.grammar.specs.Bytes.{Bytes, text, within}
@@ -97,18 +97,18 @@ pub board-fields :
     ∷ aWhole (IsWhole 2)
     ∷ aWords (at "TopBarcode")
     ∷ aWords (at "BottomBarcode")
-    ∷ aMeasure (IsMeasure 1000000)
-    ∷ aMeasure (IsMeasure 2000000)
-    ∷ aMeasure (IsMeasure 500000)
-    ∷ aMeasure (IsMeasure 4000000)
-    ∷ aMeasure (IsMeasure 5000000)
-    ∷ aMeasure (IsMeasure 6000000)
-    ∷ aMeasure (IsMeasure 7000000)
+    ∷ aMeasure (IsMeasure 1000000 0)
+    ∷ aMeasure (IsMeasure 2000000 0)
+    ∷ aMeasure (IsMeasure 500000 1)
+    ∷ aMeasure (IsMeasure 4000000 0)
+    ∷ aMeasure (IsMeasure 5000000 0)
+    ∷ aMeasure (IsMeasure 6000000 0)
+    ∷ aMeasure (IsMeasure 7000000 0)
     ∷ aWords (at "WorkOrderId")
     ∷ aWhole (IsWhole 900)
     ∷ aWords (at "BatchId")
     ∷ [])
-unfolding table fieldsIn fieldFor tried judged guidOf filled may hex intOf signed sized numberOf parted unsigned decimal written short above decimals before behind trim dropFront dropBack keepBefore blank digit all nonEmpty valueFrom within
+unfolding table fieldsIn fieldFor tried judged guidOf filled may hex intOf signed sized numberOf decimalsOf parted unsigned decimal written short above decimals before behind trim dropFront dropBack keepBefore blank digit all nonEmpty valueFrom within
 board-fields = refl
 
 pub forecast-fields :
@@ -135,7 +135,7 @@ pub forecast-fields :
     no-trees)
     ≡ messageFrom 11
     (aWords (at "ForecastId")
-    ∷ aMeasure (IsMeasure 9000000)
+    ∷ aMeasure (IsMeasure 9000000 0)
     ∷ aGuid someId
     ∷ aWords (at "BoardIdCreatedBy")
     ∷ aWhole (IsWhole 1)
@@ -143,16 +143,16 @@ pub forecast-fields :
     ∷ aWhole (IsWhole 2)
     ∷ aWords (at "TopBarcode")
     ∷ aWords (at "BottomBarcode")
-    ∷ aMeasure (IsMeasure 1000000)
-    ∷ aMeasure (IsMeasure 2000000)
-    ∷ aMeasure (IsMeasure 500000)
-    ∷ aMeasure (IsMeasure 4000000)
-    ∷ aMeasure (IsMeasure 5000000)
-    ∷ aMeasure (IsMeasure 6000000)
-    ∷ aMeasure (IsMeasure 7000000)
+    ∷ aMeasure (IsMeasure 1000000 0)
+    ∷ aMeasure (IsMeasure 2000000 0)
+    ∷ aMeasure (IsMeasure 500000 1)
+    ∷ aMeasure (IsMeasure 4000000 0)
+    ∷ aMeasure (IsMeasure 5000000 0)
+    ∷ aMeasure (IsMeasure 6000000 0)
+    ∷ aMeasure (IsMeasure 7000000 0)
     ∷ aWords (at "WorkOrderId")
     ∷ [])
-unfolding table fieldsIn fieldFor tried judged guidOf filled may hex intOf signed sized numberOf parted unsigned decimal written short above decimals before behind trim dropFront dropBack keepBefore blank digit all nonEmpty valueFrom within
+unfolding table fieldsIn fieldFor tried judged guidOf filled may hex intOf signed sized numberOf decimalsOf parted unsigned decimal written short above decimals before behind trim dropFront dropBack keepBefore blank digit all nonEmpty valueFrom within
 forecast-fields = refl
 
 pub service-fields :
@@ -164,16 +164,16 @@ service-fields = refl
 pub other-fields :
     (messageOf 2 spot (tree (text "Notification") ("NotificationCode" := "8" ∷ "Severity" := "3" ∷ "Description" := "d" ∷ []) no-trees) ≡ messageFrom 2 (aWhole (IsWhole 8) ∷ aWhole (IsWhole 3) ∷ aWords (at "Description") ∷ []))
     × (messageOf 5 spot (tree (text "MachineReady") ("FailedBoard" := "2" ∷ "ForecastId" := "f" ∷ []) no-trees) ≡ messageFrom 5 (aWhole (IsWhole 2) ∷ aWords (at "ForecastId") ∷ []))
-    × (messageOf 7 spot (tree (text "StartTransport") ("BoardId" := "01234567-89ab-cdef-0123-456789abcdef" ∷ "ConveyorSpeed" := "4" ∷ []) no-trees) ≡ messageFrom 7 (aGuid someId ∷ aMeasure (IsMeasure 4000000) ∷ []))
+    × (messageOf 7 spot (tree (text "StartTransport") ("BoardId" := "01234567-89ab-cdef-0123-456789abcdef" ∷ "ConveyorSpeed" := "4" ∷ []) no-trees) ≡ messageFrom 7 (aGuid someId ∷ aMeasure (IsMeasure 4000000 0) ∷ []))
     × (messageOf 8 spot (tree (text "StopTransport") ("TransferState" := "3" ∷ "BoardId" := "01234567-89ab-cdef-0123-456789abcdef" ∷ []) no-trees) ≡ messageFrom 8 (aWhole (IsWhole 3) ∷ aGuid someId ∷ []))
     × (messageOf 9 spot (tree (text "TransportFinished") ("TransferState" := "1" ∷ "BoardId" := "01234567-89ab-cdef-0123-456789abcdef" ∷ []) no-trees) ≡ messageFrom 9 (aWhole (IsWhole 1) ∷ aGuid someId ∷ []))
     × (messageOf 10 spot (tree (text "CheckAlive") ("Type" := "2" ∷ "Id" := "i" ∷ []) no-trees) ≡ messageFrom 10 (aWhole (IsWhole 2) ∷ aWords (at "Id") ∷ []))
-unfolding table fieldsIn fieldFor tried judged guidOf filled may hex intOf signed sized numberOf parted unsigned decimal written short above decimals before behind trim dropFront dropBack keepBefore blank digit all nonEmpty valueFrom within
+unfolding table fieldsIn fieldFor tried judged guidOf filled may hex intOf signed sized numberOf decimalsOf parted unsigned decimal written short above decimals before behind trim dropFront dropBack keepBefore blank digit all nonEmpty valueFrom within
 other-fields = (refl, refl, refl, refl, refl, refl)
 
 -- the numbers of a message: of an id whether it is there, of a text its place, of a number its value, of features their bits; zeros behind them
 pub message-numbers :
-    (messageFrom 7 (aGuid someId ∷ aMeasure (IsMeasure 4000000) ∷ []) ≡ record { kind = 7; cells = 1 ∷ 0 ∷ 0 ∷ 1 ∷ 4000000 ∷ 0 ∷ replicate 66 0; id = someId .bytes })
+    (messageFrom 7 (aGuid someId ∷ aMeasure (IsMeasure 4000000 2) ∷ []) ≡ record { kind = 7; cells = 1 ∷ 0 ∷ 0 ∷ 1 ∷ 4000000 ∷ 2 ∷ replicate 66 0; id = someId .bytes })
     × (messageFrom 10 (aWhole (IsWhole 2) ∷ aWords (Present (record { start = 31; len = 4 })) ∷ []) ≡ record { kind = 10; cells = 1 ∷ 2 ∷ 0 ∷ 1 ∷ 31 ∷ 4 ∷ replicate 66 0; id = replicate 36 0 })
     × (messageFrom 1 (aWords Absent ∷ aWhole (IsWhole 1) ∷ aWords Absent ∷ aFeatures (record { there = true; forecast = true; query = false; send = true }) ∷ []) ≡ record { kind = 1; cells = 0 ∷ 0 ∷ 0 ∷ 1 ∷ 1 ∷ 0 ∷ 0 ∷ 0 ∷ 0 ∷ 1 ∷ 5 ∷ 0 ∷ replicate 60 0; id = replicate 36 0 })
     × (messageFrom 5 [] ≡ nothing 5)

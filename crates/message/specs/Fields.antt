@@ -22,7 +22,7 @@ wholeIn absent = NoWhole
 wholeIn (refused n) = NoWhole
 wholeIn (present (aText v)) = NoWhole
 wholeIn (present (anInt n)) = IsWhole n
-wholeIn (present (millionths n)) = NoWhole
+wholeIn (present (millionths n d)) = NoWhole
 wholeIn (present (anId v)) = NoWhole
 wholeIn (present (noted a b c)) = NoWhole
 
@@ -31,7 +31,7 @@ measureIn absent = NoMeasure
 measureIn (refused n) = NoMeasure
 measureIn (present (aText v)) = NoMeasure
 measureIn (present (anInt n)) = NoMeasure
-measureIn (present (millionths n)) = IsMeasure n
+measureIn (present (millionths n d)) = IsMeasure n d
 measureIn (present (anId v)) = NoMeasure
 measureIn (present (noted a b c)) = NoMeasure
 
@@ -40,7 +40,7 @@ idIn absent = noId
 idIn (refused n) = noId
 idIn (present (aText v)) = noId
 idIn (present (anInt n)) = noId
-idIn (present (millionths n)) = noId
+idIn (present (millionths n d)) = noId
 idIn (present (anId v)) = record { there = true; bytes = v }
 idIn (present (noted a b c)) = noId
 
@@ -52,7 +52,7 @@ featuresIn absent = noFeatures
 featuresIn (refused n) = noFeatures
 featuresIn (present (aText v)) = noFeatures
 featuresIn (present (anInt n)) = noFeatures
-featuresIn (present (millionths n)) = noFeatures
+featuresIn (present (millionths n d)) = noFeatures
 featuresIn (present (anId v)) = noFeatures
 featuresIn (present (noted a b c)) = record { there = true; forecast = a; query = b; send = c }
 

@@ -6,10 +6,10 @@ pub enum Whole {
     Present(u64),
 }
 
-/// A positive number in millionths, if it is there.
+/// A positive number in millionths, and how many digits stand behind its point, if it is there.
 pub enum Measure {
     Absent,
-    Present(u64),
+    Present(u64, u64),
 }
 
 /// Whether SupportedFeatures is there, and which features stand in it.

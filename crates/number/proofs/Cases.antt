@@ -8,8 +8,8 @@ use borrow.Author.Tests.{eq-eqb}
 use types.Run.{OneOf}
 use denote.Enum.Declared.{tagOf}
 use Rattle.number.specs.Bytes.{pick}
-use Rattle.number.specs.Positive.{noNumber}
-use Rattle.number.specs.Scan.{inside, broken, intBodyEnd, numberBodyEnd}
+use Rattle.number.specs.Positive.{noNumber, numberRead}
+use Rattle.number.specs.Scan.{inside, broken, intBodyEnd, numberBodyEnd, bodyDecimals, bodyEnd}
 use Rattle.number.specs.declared.whole.WholeRead.{WholeRead}
 use Rattle.number.specs.declared.ends.Ends.{Ends}
 use Rattle.number.specs.declared.scan.Body.{Body}
@@ -47,14 +47,14 @@ no-int (Body.Turned minus d) h = refl
 no-int (Body.Power minus e d) h = refl
 no-int Body.Dead h = refl
 
-pub no-number : (s : Body) → OneOf (0 ∷ 1 ∷ 3 ∷ 5 ∷ 6 ∷ 8 ∷ []) (tagOf body-type.the-type s) → noNumber ≡ numberBodyEnd s
-unfolding numberBodyEnd
-no-number Body.Start h = refl
-no-number (Body.Signed minus) h = refl
-no-number (Body.Whole minus d) h = other 2 (0 ∷ 1 ∷ 3 ∷ 5 ∷ 6 ∷ 8 ∷ []) tt h
-no-number Body.Point h = refl
-no-number (Body.Part d) h = other 4 (0 ∷ 1 ∷ 3 ∷ 5 ∷ 6 ∷ 8 ∷ []) tt h
-no-number (Body.Mark d) h = refl
-no-number (Body.Turned minus d) h = refl
-no-number (Body.Power minus e d) h = other 7 (0 ∷ 1 ∷ 3 ∷ 5 ∷ 6 ∷ 8 ∷ []) tt h
-no-number Body.Dead h = refl
+pub no-end : (s : Body) → OneOf (0 ∷ 1 ∷ 3 ∷ 5 ∷ 6 ∷ 8 ∷ []) (tagOf body-type.the-type s) → numberRead noNumber 0 ≡ bodyEnd s
+unfolding bodyEnd numberBodyEnd bodyDecimals
+no-end Body.Start h = refl
+no-end (Body.Signed minus) h = refl
+no-end (Body.Whole minus d) h = other 2 (0 ∷ 1 ∷ 3 ∷ 5 ∷ 6 ∷ 8 ∷ []) tt h
+no-end Body.Point h = refl
+no-end (Body.Part d) h = other 4 (0 ∷ 1 ∷ 3 ∷ 5 ∷ 6 ∷ 8 ∷ []) tt h
+no-end (Body.Mark d) h = refl
+no-end (Body.Turned minus d) h = refl
+no-end (Body.Power minus e d) h = other 7 (0 ∷ 1 ∷ 3 ∷ 5 ∷ 6 ∷ 8 ∷ []) tt h
+no-end Body.Dead h = refl

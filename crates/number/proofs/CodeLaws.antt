@@ -12,14 +12,15 @@ use lib.Seq.{take-suc, take-all}
 use borrow.Author.Tests.{lt-ltb, le-ltb, le-leb, lt-leb, ne-eqb, eq-eqb}
 use Rattle.number.specs.Bytes.{Bytes, pick}
 use Rattle.number.specs.Whole.{CAP}
-use Rattle.number.specs.Positive.{noNumber, number}
+use Rattle.number.specs.Positive.{Number, noNumber, number, numberRead}
 use Rattle.number.specs.Scan.{run, endsStep, inside, TOP, bodyStep, step, sizedAs, limited, tenths, exactly, ended}
 use Rattle.number.specs.declared.whole.WholeRead.{WholeRead}
+use Rattle.number.specs.declared.positive.NumberRead.{NumberRead}
 use Rattle.number.specs.declared.ends.Ends.{Ends}
 use Rattle.number.specs.declared.scan.Digits.{Digits}
 use Rattle.number.specs.declared.scan.Body.{Body}
 use Rattle.number.specs.declared.scan.Scan.{Scan}
-use Rattle.number.proofs.Tests.{and-false}
+use Rattle.number.proofs.Tests.{never, and-false}
 use Rattle.number.proofs.Powers.{ten-pos, shift}
 use Rattle.number.proofs.Theorems.{scanned-more}
 
@@ -140,3 +141,14 @@ scaled-up n up down h l = rw (lt-ltb n TOP h, le-leb down up l)
 pub scaled-down : (n up down : ℕ) → n < TOP → up < down → tenths (down - up) n ≡ ended n up down
 unfolding ended exactly
 scaled-down n up down h l = rw (lt-ltb n TOP h, lt-leb down up l)
+
+-- a number that is read with its digits behind the point
+pub told-none : (x : Number) (r : NumberRead) (d : ℕ) → r ≡ numberRead x 0 → r .ok ≡ false → r ≡ numberRead x d
+unfolding numberRead
+told-none noNumber r d e h = e
+told-none (number n) r d e h = never (ap (λ (q : NumberRead). q .ok) e) h
+
+pub told-some : (x : Number) (r : NumberRead) (d c : ℕ) → r ≡ numberRead x 0 → r .ok ≡ true → c ≡ d → _≡_ {A = NumberRead} (record { ok = true; millionths = r .millionths; decimals = c }) (numberRead x d)
+unfolding numberRead
+told-some noNumber r d c e h p = never h (ap (λ (q : NumberRead). q .ok) e)
+told-some (number n) r d c e h p = rw (p, ap (λ (q : NumberRead). q .millionths) e)

@@ -207,7 +207,7 @@ decimal-exact f g a b s =
     ∙ ap (λ (y : ℕ). exactly y 6 (length g)) (sym (value-append 0 f g))
 
 -- zeros are digits and count nothing
-zeros-digits : (e : ℕ) → all digit (zeros e) ≡ true
+pub zeros-digits : (e : ℕ) → all digit (zeros e) ≡ true
 unfolding all digit
 zeros-digits zero = refl
 zeros-digits (suc e) = zeros-digits e
@@ -222,7 +222,7 @@ unfolding all
 all-append class [] y = refl
 all-append class (b ∷ x) y = cases (class b) (λ t. rw t (all-append class x y)) (λ t. rw t)
 
-both-digits : (x y : Bytes) → all digit x ≡ true → all digit y ≡ true → all digit (x ++ y) ≡ true
+pub both-digits : (x y : Bytes) → all digit x ≡ true → all digit y ≡ true → all digit (x ++ y) ≡ true
 both-digits x y a b = all-append digit x y ∙ rw (a, b)
 
 -- digits cut anywhere are digits

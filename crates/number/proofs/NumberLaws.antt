@@ -11,8 +11,9 @@ use lib.Dec.{eqb, leb, ltb}
 use lib.ListN.{length}
 use borrow.Author.Tests.{eqb-true, eqb-false, ne-eqb}
 use Rattle.number.specs.Bytes.{Bytes, pick, and, or, blank, digit, figure, nonEmpty, all, trim, dropFront, dropBack, keepBefore, valueFrom, value, before, behind}
-use Rattle.number.specs.Positive.{Number, noNumber, number, written, decimal, unsigned, parted, mark, mantissa, power, powered, powerDigits, below, powerWritten, right, left, out, decimalOf, numberOf, numberRead, NumberRange}
-use Rattle.number.specs.Scan.{TENTH, FAR, SLICE, run, joined, zerosMore, withDigit, noDigits, partDigit, partStep, signStep, wholeStep, firstStep, powerMore, powerDigit, markStep, bodyStep, exactly, powerEnd, wholeEnd, numberBodyEnd, numberEnd, NumberExact}
+use Rattle.number.specs.Positive.{Number, noNumber, number, written, decimal, unsigned, parted, mark, mantissa, power, powered, powerDigits, below, powerWritten, right, left, out, decimalOf, numberOf, decimalsIn, decimalsOf, numberRead, NumberRange}
+use Rattle.number.specs.Scan.{TENTH, FAR, SLICE, run, joined, zerosMore, withDigit, noDigits, partDigit, partStep, signStep, wholeStep, firstStep, powerMore, powerDigit, markStep, bodyStep, exactly, powerEnd, wholeEnd, numberBodyEnd, bodyDecimals, bodyEnd, numberEnd, NumberExact}
+use Rattle.number.specs.declared.positive.NumberRead.{NumberRead}
 use Rattle.number.specs.declared.scan.Digits.{Digits}
 use Rattle.number.specs.declared.scan.Body.{Body}
 use Rattle.number.proofs.Tests.{cases, never, and-left, and-right, and-false, digit-low, digit-high, point-no-digit}
@@ -324,8 +325,126 @@ blank-unsigned [] h = blank-decimal [] h
 blank-unsigned (b ∷ t) h =
     cases (eqb b (code "+")) (λ p. rw p (blank-decimal t (rest-blank b t (plus-solid b p) h))) (λ p. rw p (blank-decimal (b ∷ t) h))
 
-clear : (t : Bytes) → pick (all solid t) (decimalOf (unsigned t)) noNumber ≡ decimalOf (unsigned t)
-clear t = cases (all solid t) (λ h. rw h) (λ h. rw (h, blank-unsigned t h))
+-- the digits behind the point: behind the mark of an exponent there are none
+unfoldable marked : Body → Bool
+marked Body.Start = false
+marked (Body.Signed minus) = false
+marked (Body.Whole minus d) = false
+marked Body.Point = false
+marked (Body.Part d) = false
+marked (Body.Mark d) = true
+marked (Body.Turned minus d) = true
+marked (Body.Power minus e d) = true
+marked Body.Dead = true
+
+marked-power : (minus : Bool) (e : ℕ) (d : Digits) (b : ℕ) → marked (powerDigit minus e d b) ≡ true
+unfolding marked powerDigit
+marked-power minus e d b = cases (digit b) (λ t. rw t) (λ t. rw t)
+
+marked-step : (s : Body) (b : ℕ) → marked s ≡ true → marked (bodyStep s b) ≡ true
+unfolding marked bodyStep markStep
+marked-step Body.Start b h = never h refl
+marked-step (Body.Signed minus) b h = never h refl
+marked-step (Body.Whole minus d) b h = never h refl
+marked-step Body.Point b h = never h refl
+marked-step (Body.Part d) b h = never h refl
+marked-step (Body.Mark d) b h =
+    cases (eqb b (code "-")) (λ m. rw m) (λ m. cases (eqb b (code "+")) (λ p. rw (m, p)) (λ p. rw (m, p) (marked-power false 0 d b)))
+marked-step (Body.Turned minus d) b h = marked-power minus 0 d b
+marked-step (Body.Power minus e d) b h = marked-power minus e d b
+marked-step Body.Dead b h = refl
+
+marked-end : (s : Body) → marked s ≡ true → bodyDecimals s ≡ 0
+unfolding marked bodyDecimals
+marked-end Body.Start h = never h refl
+marked-end (Body.Signed minus) h = never h refl
+marked-end (Body.Whole minus d) h = never h refl
+marked-end Body.Point h = never h refl
+marked-end (Body.Part d) h = never h refl
+marked-end (Body.Mark d) h = refl
+marked-end (Body.Turned minus d) h = refl
+marked-end (Body.Power minus e d) h = refl
+marked-end Body.Dead h = refl
+
+-- what the steps tell
+abbrev tells : Body → Bytes → ℕ
+tells s t = bodyDecimals (run bodyStep s t)
+
+marked-tells : (s : Body) (t : Bytes) → marked s ≡ true → tells s t ≡ 0
+unfolding run
+marked-tells s [] h = marked-end s h
+marked-tells s (b ∷ t) h = marked-tells (bodyStep s b) t (marked-step s b h)
+
+mark-tells : (d : Digits) (t : Bytes) → tells (Body.Mark d) t ≡ 0
+unfolding marked
+mark-tells d t = marked-tells (Body.Mark d) t refl
+
+not-dead : {P : Type 0} (t : Bytes) (m : ℕ) → ended Body.Dead t ≡ number m → P
+not-dead t m h = absurd (let i : noNumber ≡ number m = sym (dead t) ∙ h in let z : _≡_ {A = ℕ} 0 1 = cc in omega arith)
+
+part-tells : (d : Digits) (u : Bytes) (m : ℕ) → d .places + length u ≤ FAR → ended (Body.Part d) u ≡ number m → tells (Body.Part d) u ≡ pick (powered u) 0 (min 6 (d .places + length u))
+unfolding run bodyStep bodyDecimals numberBodyEnd partStep partDigit
+part-tells d [] m l h = omega arith
+part-tells d (b ∷ u) m l h =
+    cases (mark b)
+    (λ k. rw k (mark-tells d u))
+    (λ k. cases (digit b)
+    (λ t.
+    let p : min FAR (d .places + 1) ≡ d .places + 1 = omega arith in
+    let n : d .places + 1 + length u ≡ d .places + suc (length u) = omega arith in
+    rw (k, t, p) (part-tells (withDigit d (d .places + 1) b) u m (omega arith) (rw (k, t, p) at h) ∙ ap (λ (y : ℕ). pick (powered u) 0 (min 6 y)) n))
+    (λ t. not-dead u m (rw (k, t) at h)))
+
+whole-tells : (d : Digits) (u : Bytes) (m : ℕ) → d .places ≡ 0 → length u ≤ FAR → ended (Body.Whole false d) u ≡ number m → tells (Body.Whole false d) u ≡ decimalsIn u
+unfolding run bodyStep bodyDecimals numberBodyEnd wholeStep behind
+whole-tells d [] m z l h = refl
+whole-tells d (b ∷ u) m z l h =
+    cases (digit b)
+    (λ t. rw (t, digit-no-mark b t, digit-no-point b t) (whole-tells (withDigit d 0 b) u m refl (omega arith) (rw t at h)))
+    (λ t.
+    cases (eqb b (code "."))
+    (λ p. rw (t, point-no-mark b p, p) (part-tells d u m (omega arith) (rw (t, p) at h) ∙ ap (λ (y : ℕ). pick (powered u) 0 (min 6 y)) (omega arith)))
+    (λ p. cases (mark b) (λ k. rw (t, p, k) (mark-tells d u)) (λ k. not-dead u m (rw (t, p, k) at h))))
+
+point-tells : (u : Bytes) (m : ℕ) → length u < SLICE → ended Body.Point u ≡ number m → tells Body.Point u ≡ decimalsIn (code "." ∷ u)
+unfolding run bodyStep bodyDecimals numberBodyEnd partDigit behind
+point-tells [] m l h = refl
+point-tells (b ∷ u) m l h =
+    cases (digit b)
+    (λ t. rw (t, digit-no-mark b t) (part-tells (withDigit noDigits 1 b) u m (omega arith) (rw t at h) ∙ ap (λ (y : ℕ). pick (powered u) 0 (min 6 y)) (omega arith)))
+    (λ t. not-dead u m (rw t at h))
+
+plus-tells : (u : Bytes) (m : ℕ) → length u < SLICE → ended (Body.Signed false) u ≡ number m → tells (Body.Signed false) u ≡ decimalsIn u
+unfolding run bodyStep bodyDecimals numberBodyEnd signStep behind
+plus-tells [] m l h = refl
+plus-tells (b ∷ u) m l h =
+    cases (digit b)
+    (λ t. rw (t, digit-no-mark b t, digit-no-point b t) (whole-tells (withDigit noDigits 0 b) u m refl (omega arith) (rw t at h)))
+    (λ t.
+    cases (eqb b (code "."))
+    (λ p. rw (t, p) (point-tells u m (omega arith) (rw (t, p) at h)) ∙ ap (λ (c : ℕ). decimalsIn (c ∷ u)) (sym (eqb-true b (code ".") p)))
+    (λ p. not-dead u m (rw (t, p) at h)))
+
+start-tells : (t : Bytes) (m : ℕ) → length t < SLICE → ended Body.Start t ≡ number m → tells Body.Start t ≡ decimalsIn (unsigned t)
+unfolding run bodyStep bodyDecimals numberBodyEnd firstStep unsigned behind
+start-tells [] m l h = refl
+start-tells (b ∷ t) m l h =
+    cases (eqb b (code "-"))
+    (λ k. absurd (let i : noNumber ≡ number m = sym (from-minus t) ∙ rw k at h in let z : _≡_ {A = ℕ} 0 1 = cc in omega arith))
+    (λ k. cases (eqb b (code "+")) (λ p. rw (k, p) (plus-tells t m (omega arith) (rw (k, p) at h))) (λ p. rw (k, p) (plus-tells (b ∷ t) m l (rw (k, p) at h))))
+
+-- both
+start-read : (t : Bytes) → length t < SLICE → bodyEnd (run bodyStep Body.Start t) ≡ numberRead (decimalOf (unsigned t)) (decimalsIn (unsigned t))
+unfolding bodyEnd numberRead
+start-read t l = go (ended Body.Start t) refl (from-start t l)
+  where
+    go : (x : Number) → ended Body.Start t ≡ x → x ≡ decimalOf (unsigned t) → numberRead x (tells Body.Start t) ≡ numberRead (decimalOf (unsigned t)) (decimalsIn (unsigned t))
+    go noNumber e f = ap (λ (y : Number). numberRead y (decimalsIn (unsigned t))) f
+    go (number m) e f = ap (numberRead (number m)) (start-tells t m l e) ∙ ap (λ (y : Number). numberRead y (decimalsIn (unsigned t))) f
+
+clear : (t : Bytes) → pick (all solid t) (numberRead (decimalOf (unsigned t)) (decimalsIn (unsigned t))) (numberRead noNumber 0) ≡ numberRead (decimalOf (unsigned t)) (decimalsIn (unsigned t))
+unfolding numberRead
+clear t = cases (all solid t) (λ h. rw h) (λ h. rw h (ap (λ (y : Number). numberRead y (decimalsIn (unsigned t))) (sym (blank-unsigned t h))))
 
 -- what is dropped leaves no more bytes
 front-short : (class : ℕ → Bool) (w : Bytes) → length (dropFront class w) ≤ length w
@@ -348,13 +467,12 @@ unfolding trim
 trim-short w = let a = front-short blank w in let b = back-short blank (dropFront blank w) in omega arith
 
 pub number-exact : NumberExact
-unfolding numberEnd numberOf
+unfolding numberEnd numberOf decimalsOf
 number-exact w l =
     ap numberEnd (apart w)
-    ∙ ap numberRead
-    (trimmed bodyStep noNumber numberBodyEnd Body.Start w
-    ∙ ap (λ (x : Number). pick (all solid (trim w)) x noNumber) (from-start (trim w) (let h = trim-short w in omega arith))
-    ∙ clear (trim w))
+    ∙ trimmed bodyStep (numberRead noNumber 0) bodyEnd Body.Start w
+    ∙ ap (λ (x : NumberRead). pick (all solid (trim w)) x (numberRead noNumber 0)) (start-read (trim w) (let h = trim-short w in omega arith))
+    ∙ clear (trim w)
 
 -- m millionths are f.g times ten to the power that x writes
 pub record Powered (f g x : Bytes) (m : ℕ) : Type 0 where

@@ -8,7 +8,7 @@ use mathlib.Core.Logic.{_↔_}
 use native.Mathlib.Omega.{arith}
 use Rattle.number.specs.Bytes.{Bytes, blank, digit, nonEmpty, all, trim, dropFront, dropBack, keepBefore, valueFrom, before, behind}
 use Rattle.number.specs.Whole.{Whole, noInt, int, sized, signed, intOf, capped, paper, wholeRead}
-use Rattle.number.specs.Positive.{number, written, short, above, millionths, decimal, parted, unsigned, powerWritten, out, numberOf, numberRead, NumberRange}
+use Rattle.number.specs.Positive.{number, written, short, above, millionths, decimal, parted, unsigned, powerWritten, out, numberOf, decimalsOf, numberRead, NumberRange}
 use Rattle.number.specs.Guid.{guidOf}
 use Rattle.number.specs.Version.{versionOf}
 use Rattle.number.specs.Bench.{Bench, bench}
@@ -64,8 +64,8 @@ paper-read (int b n) = refl
 pub int-answer : (v : Bytes) (r : WholeRead) → paper r ≡ capped (intOf v) → r ≡ wholeRead (intOf v)
 int-answer v r h = int-only v r (wholeRead (intOf v)) h (paper-read (intOf v))
 
-pub number-only : (v : Bytes) (r q : NumberRead) → r ≡ numberRead (numberOf v) → q ≡ numberRead (numberOf v) → r ≡ q
-number-only v r q h k = value-only (numberRead (numberOf v)) r q h k
+pub number-only : (v : Bytes) (r q : NumberRead) → r ≡ numberRead (numberOf v) (decimalsOf v) → q ≡ numberRead (numberOf v) (decimalsOf v) → r ≡ q
+number-only v r q h k = value-only (numberRead (numberOf v) (decimalsOf v)) r q h k
 
 pub guid-only : (v : Bytes) (r q : Bool) → r ≡ guidOf v → q ≡ guidOf v → r ≡ q
 guid-only v r q h k = value-only (guidOf v) r q h k

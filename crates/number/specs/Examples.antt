@@ -6,7 +6,7 @@ use Prim.Native.Nat.{ℕ, zero, suc, _+_}
 use Prim.Native.String.{String}
 use Rattle.number.specs.Bytes.{Bytes, text, and, or, blank, digit, hex, nonEmpty, all, trim, dropFront, dropBack, keepBefore, valueFrom, before, behind, pointed}
 use Rattle.number.specs.Whole.{Whole, noInt, int, sized, signed, intOf, capped, paper, wholeRead}
-use Rattle.number.specs.Positive.{Number, noNumber, number, written, short, millionths, above, decimal, unsigned, parted, numberOf, numberRead}
+use Rattle.number.specs.Positive.{Number, noNumber, number, written, short, millionths, above, decimal, unsigned, parted, numberOf, decimalsOf, numberRead}
 use Rattle.number.specs.Guid.{may, filled, guidOf}
 use Rattle.number.specs.Version.{oneToThree, versionOf}
 use Rattle.number.specs.Bench.{Case, whole, positive}
@@ -135,6 +135,18 @@ pub powers-hold : found powers ≡ powers
 unfolding intOf signed sized numberOf parted unsigned decimal written short above millionths before behind trim dropBack dropFront keepBefore blank nonEmpty all digit valueFrom
 powers-hold = refl
 
+-- order 6: `160.00` tells 2
+pub decimals :
+    (decimalsOf (text "160.00") ≡ 2)
+    × (decimalsOf (text "160.") ≡ 0)
+    × (decimalsOf (text "160") ≡ 0)
+    × (decimalsOf (text " +.50 ") ≡ 2)
+    × (decimalsOf (text "1.2345670") ≡ 6)
+    × (decimalsOf (text "1.6E2") ≡ 0)
+    × (decimalsOf (text "1.60E-1") ≡ 0)
+unfolding decimalsOf unsigned behind trim dropBack dropFront keepBefore blank
+decimals = (refl, refl, refl, refl, refl, refl, refl)
+
 -- the cap is one above the largest size of a table, 65,535: it is told apart from all that a table has
 pub caps :
     (capped (int false 65535) ≡ int false 65535)
@@ -150,8 +162,8 @@ pub answers :
     (paper WholeRead.Bad ≡ noInt)
     × (paper (WholeRead.Is true 7) ≡ int true 7)
     × (wholeRead (int false 65537) ≡ WholeRead.Is false 65536)
-    × (numberRead noNumber ≡ record { ok = false; millionths = 0 })
-    × (numberRead (number 5) ≡ record { ok = true; millionths = 5 })
+    × (numberRead noNumber 5 ≡ record { ok = false; millionths = 0; decimals = 0 })
+    × (numberRead (number 5) 6 ≡ record { ok = true; millionths = 5; decimals = 6 })
 unfolding paper wholeRead numberRead
 answers = (refl, refl, refl, refl, refl)
 

@@ -1,5 +1,5 @@
 -- Positive number: what a byte string is worth as a decimal above zero.
-use Prim.Native.Nat.{ℕ, _+_, _-_, _*_, _^_, _≤_}
+use Prim.Native.Nat.{ℕ, _+_, _-_, _*_, _^_, _≤_, min}
 use Prim.Native.Char.{code}
 use mathlib.Core.Path.{_≡_}
 use mathlib.Core.Bool.{Bool, true, false}
@@ -107,7 +107,14 @@ numberOf v = decimalOf (unsigned (trim v))
 abbrev pub NumberRange : Type 0
 NumberRange = (v : Bytes) (n : ℕ) → numberOf v ≡ number n → (1 ≤ n) × (n ≤ 9999999999999)
 
--- the answer that tells it
-unfoldable pub numberRead : Number → NumberRead
-numberRead noNumber = record { ok = false; millionths = 0 }
-numberRead (number n) = record { ok = true; millionths = n }
+-- order 6: "how many digits stood behind the point, 0 to 6, trailing zeros counted and more than 6 told as 6; a number with an exponent tells 0"
+abbrev pub decimalsIn : Bytes → ℕ
+decimalsIn s = pick (powered s) 0 (min BEHIND (length (behind s)))
+
+unfoldable pub decimalsOf : Bytes → ℕ
+decimalsOf v = decimalsIn (unsigned (trim v))
+
+-- the answer that tells both
+unfoldable pub numberRead : Number → ℕ → NumberRead
+numberRead noNumber d = record { ok = false; millionths = 0; decimals = 0 }
+numberRead (number n) d = record { ok = true; millionths = n; decimals = d }

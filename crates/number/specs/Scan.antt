@@ -21,7 +21,7 @@ use lib.Dec.{eqb, leb, ltb}
 use lib.ListN.{drop, length}
 use Rattle.number.specs.Bytes.{Bytes, pick, and, blank, digit, zeroDigit, figure}
 use Rattle.number.specs.Whole.{CAP, intOf, capped, paper}
-use Rattle.number.specs.Positive.{BEFORE, BEHIND, Number, noNumber, number, mark, numberOf, numberRead}
+use Rattle.number.specs.Positive.{BEFORE, BEHIND, Number, noNumber, number, mark, numberOf, decimalsOf, numberRead}
 use Rattle.number.specs.Guid.{Place, places, may}
 use Rattle.number.specs.declared.whole.WholeRead.{WholeRead}
 use Rattle.number.specs.declared.positive.NumberRead.{NumberRead}
@@ -210,15 +210,30 @@ numberBodyEnd (Body.Turned minus d) = noNumber
 numberBodyEnd (Body.Power minus e d) = powerEnd minus e d
 numberBodyEnd Body.Dead = noNumber
 
+-- the digits behind the point; an exponent tells none
+unfoldable pub bodyDecimals : Body → ℕ
+bodyDecimals Body.Start = 0
+bodyDecimals (Body.Signed minus) = 0
+bodyDecimals (Body.Whole minus d) = 0
+bodyDecimals Body.Point = 0
+bodyDecimals (Body.Part d) = min BEHIND (d .places)
+bodyDecimals (Body.Mark d) = 0
+bodyDecimals (Body.Turned minus d) = 0
+bodyDecimals (Body.Power minus e d) = 0
+bodyDecimals Body.Dead = 0
+
+unfoldable pub bodyEnd : Body → NumberRead
+bodyEnd b = numberRead (numberBodyEnd b) (bodyDecimals b)
+
 unfoldable pub numberEnd : Scan → NumberRead
-numberEnd s = numberRead (pick (broken (s .ends)) noNumber (numberBodyEnd (s .body)))
+numberEnd s = pick (broken (s .ends)) (numberRead noNumber 0) (bodyEnd (s .body))
 
 -- a slice has fewer bytes: so many are counted one by one
 abbrev pub SLICE : ℕ
 SLICE = 2 ^ 63
 
 abbrev pub NumberExact : Type 0
-NumberExact = (w : Bytes) → length w < SLICE → numberEnd (run step start w) ≡ numberRead (numberOf w)
+NumberExact = (w : Bytes) → length w < SLICE → numberEnd (run step start w) ≡ numberRead (numberOf w) (decimalsOf w)
 
 -- GUID and Version are read in a row: whether a byte may stand at place n, and how many digits stand first.
 unfoldable pub mayFirst : List Place → ℕ → Bool

@@ -11,6 +11,7 @@ pub mod whole;
 
 pub use guid::is_guid;
 pub use positive::NumberRead;
+pub use positive::at_most_six;
 pub use positive::number_end;
 pub use positive::number_of;
 pub use scan::Scan;

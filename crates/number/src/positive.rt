@@ -1,8 +1,9 @@
 // Positive number: above zero, and short enough when written out; told in millionths.
 ghost use mathlib.Core.Path.{_≡_};
-ghost use Prim.Native.Nat.{_*_, _^_};
-ghost use Rattle.number.specs.Positive.{noNumber, numberOf, numberRead};
-ghost use Rattle.number.specs.Scan.{limited, tenths, ended, powerEnd, wholeEnd, numberBodyEnd, numberEnd};
+ghost use Prim.Native.Nat.{_*_, _^_, min};
+ghost use Rattle.number.specs.Positive.{BEHIND, noNumber, numberOf, decimalsOf, numberRead};
+ghost use Rattle.number.specs.declared.scan.Body.{Body};
+ghost use Rattle.number.specs.Scan.{limited, tenths, ended, powerEnd, wholeEnd, bodyEnd, numberEnd};
 use crate::scan::Body;
 use crate::scan::Digits;
 use crate::scan::Scan;
@@ -14,24 +15,26 @@ use crate::tens::shifted;
 /// Millionths: places behind the point that count.
 const PLACES: u64 = 6;
 
-/// What a positive number is: none, or its millionths (0 where none).
+/// What a positive number is: none, or its millionths and how many digits stood behind the point, up to 6 (0 where none).
 pub struct NumberRead {
     pub ok: bool,
     pub millionths: u64,
+    pub decimals: u64,
 }
 
 fn bad_number() -> NumberRead
-    ensures { λ r. ⌜ r ≡ numberRead noNumber ⌝ }
+    ensures { λ r. ⌜ r ≡ numberRead noNumber 0 ⌝ }
 {
     NumberRead {
         ok: false,
         millionths: 0,
+        decimals: 0,
     }
 }
 
 // n * 10^k millionths, or none: the limits of a positive number.
 fn limit(n: u64, k: u64) -> NumberRead
-    ensures { λ r. ⌜ r ≡ numberRead (limited (n * 10 ^ k)) ⌝ }
+    ensures { λ r. ⌜ r ≡ numberRead (limited (n * 10 ^ k)) 0 ⌝ }
 {
     let m = shifted(n, k);
     if m == 0 {
@@ -41,6 +44,7 @@ fn limit(n: u64, k: u64) -> NumberRead
         return NumberRead {
             ok: true,
             millionths: m,
+            decimals: 0,
         };
     }
     bad_number()
@@ -48,7 +52,7 @@ fn limit(n: u64, k: u64) -> NumberRead
 
 // n / 10^k millionths, where nothing is left over, or none.
 fn lowered(n: u64, k: u64) -> NumberRead
-    ensures { λ r. ⌜ r ≡ numberRead (tenths k n) ⌝ }
+    ensures { λ r. ⌜ r ≡ numberRead (tenths k n) 0 ⌝ }
 {
     if n == 0 {
         return bad_number();
@@ -67,7 +71,7 @@ fn lowered(n: u64, k: u64) -> NumberRead
 
 // n * 10^up / 10^down millionths.
 fn scaled(n: u64, up: u64, down: u64) -> NumberRead
-    ensures { λ r. ⌜ r ≡ numberRead (ended n up down) ⌝ }
+    ensures { λ r. ⌜ r ≡ numberRead (ended n up down) 0 ⌝ }
 {
     if TOP <= n {
         return bad_number();
@@ -80,7 +84,7 @@ fn scaled(n: u64, up: u64, down: u64) -> NumberRead
 
 // Digits with an exponent, which is 0 where there is none.
 fn power_end(minus: bool, e: u64, d: Digits) -> NumberRead
-    ensures { λ r. ⌜ r ≡ numberRead (powerEnd minus e d) ⌝ }
+    ensures { λ r. ⌜ r ≡ numberRead (powerEnd minus e d) 0 ⌝ }
 {
     let up = far(d.zeros, PLACES);
     if minus {
@@ -90,7 +94,7 @@ fn power_end(minus: bool, e: u64, d: Digits) -> NumberRead
 }
 
 fn whole_end(minus: bool, d: Digits) -> NumberRead
-    ensures { λ r. ⌜ r ≡ numberRead (wholeEnd minus d) ⌝ }
+    ensures { λ r. ⌜ r ≡ numberRead (wholeEnd minus d) 0 ⌝ }
 {
     if minus {
         return bad_number();
@@ -98,12 +102,37 @@ fn whole_end(minus: bool, d: Digits) -> NumberRead
     power_end(false, 0, d)
 }
 
+/// A count of digits behind the point, up to 6.
+pub fn at_most_six(places: u64) -> u64
+    ensures { λ r. ⌜ r ≡ min BEHIND places ⌝ }
+{
+    if PLACES < places {
+        return PLACES;
+    }
+    places
+}
+
+// Digits with a point: so many of them behind it.
+fn part_end(d: Digits) -> NumberRead
+    ensures { λ r. ⌜ r ≡ bodyEnd (Body.Part d) ⌝ }
+{
+    let r = power_end(false, 0, d);
+    if r.ok {
+        return NumberRead {
+            ok: true,
+            millionths: r.millionths,
+            decimals: at_most_six(d.places),
+        };
+    }
+    r
+}
+
 fn body_end(body: Body) -> NumberRead
-    ensures { λ r. ⌜ r ≡ numberRead (numberBodyEnd body) ⌝ }
+    ensures { λ r. ⌜ r ≡ bodyEnd body ⌝ }
 {
     match body {
         Body::Whole(minus, d) => whole_end(minus, d),
-        Body::Part(d) => power_end(false, 0, d),
+        Body::Part(d) => part_end(d),
         Body::Power(minus, e, d) => power_end(minus, e, d),
         _ => bad_number(),
     }
@@ -123,7 +152,7 @@ pub fn number_end(s: Scan) -> NumberRead
 
 /// What the bytes are as a positive number.
 pub fn number_of(v: &[u8]) -> NumberRead
-    ensures { λ r. ⌜ r ≡ numberRead (numberOf (now (v .entry))) ⌝ }
+    ensures { λ r. ⌜ r ≡ numberRead (numberOf (now (v .entry))) (decimalsOf (now (v .entry))) ⌝ }
 {
     number_end(scanned(v))
 }

@@ -48,10 +48,10 @@ unfolding wholeBy
 of-whole NoWhole = refl
 of-whole (IsWhole n) = refl
 
-of-measure : (v : Measure) → measureBy (getD (measureCell v) 0 0) (getD (measureCell v) 1 0) ≡ v
+of-measure : (v : Measure) → measureBy (getD (measureCell v) 0 0) (getD (measureCell v) 1 0) (getD (measureCell v) 2 0) ≡ v
 unfolding measureBy
 of-measure NoMeasure = refl
-of-measure (IsMeasure n) = refl
+of-measure (IsMeasure n d) = refl
 
 of-features : (x : Result) → featuresBy (getD (featuresCell (featuresIn x)) 0 0) (getD (featuresCell (featuresIn x)) 1 0) ≡ featuresIn x
 unfolding featuresBy
@@ -59,7 +59,7 @@ of-features absent = refl
 of-features (refused n) = refl
 of-features (present (aText v)) = refl
 of-features (present (anInt n)) = refl
-of-features (present (millionths n)) = refl
+of-features (present (millionths n d)) = refl
 of-features (present (anId v)) = refl
 of-features (present (noted true true true)) = refl
 of-features (present (noted true true false)) = refl

@@ -11,7 +11,7 @@ use Rattle.exact.specs.Chain.{clash}
 use Rattle.grammar.specs.Bytes.{Bytes, nonEmpty, within}
 use Rattle.grammar.specs.Value.{Item, readValue}
 use Rattle.number.specs.Whole.{Whole as Sized, noInt, int, intOf as sizedOf, capped, paper}
-use Rattle.number.specs.Positive.{Number, noNumber, number, numberOf, numberRead}
+use Rattle.number.specs.Positive.{Number, noNumber, number, numberOf, decimalsOf, numberRead}
 use Rattle.number.specs.declared.whole.WholeRead.{WholeRead}
 use Rattle.number.specs.declared.whole.WholeRead.the-variants.{Bad as NotRead, Is}
 use Rattle.number.specs.declared.positive.NumberRead.{NumberRead}
@@ -100,21 +100,21 @@ module _ {raw : Bytes} (r : WholeRead) (lo hi : ℕ) (reads : IntReads raw r) wh
 
 -- a positive number
 module _ {raw : Bytes} {r : NumberRead} {q : Tried} (reads : NumberReads raw r) where
-  pub size-good : r .ok ≡ true → q ≡ asCell 0 (1 ∷ r .millionths ∷ 0 ∷ []) → Judges sizeOf positive raw q
+  pub size-good : r .ok ≡ true → q ≡ asCell 0 (1 ∷ r .millionths ∷ r .decimals ∷ []) → Judges sizeOf positive raw q
   unfolding judged numberRead
-  size-good t h = record { says = λ l x. h ∙ go (numberOf (readValue l)) (as-read x reads) }
+  size-good t h = record { says = λ l x. h ∙ go (numberOf (readValue l)) (decimalsOf (readValue l)) (as-read x reads) }
     where
-      go : (z : Number) → r ≡ numberRead z → asCell 0 (1 ∷ r .millionths ∷ 0 ∷ []) ≡ sizeOf (measured z)
-      go noNumber e = clash (sym t ∙ ap (λ (r : NumberRead). r .ok) e)
-      go (number n) e = ap (λ (r : NumberRead). asCell 0 (1 ∷ r .millionths ∷ 0 ∷ [])) e
+      go : (z : Number) (d : ℕ) → r ≡ numberRead z d → asCell 0 (1 ∷ r .millionths ∷ r .decimals ∷ []) ≡ sizeOf (measured z d)
+      go noNumber d e = clash (sym t ∙ ap (λ (r : NumberRead). r .ok) e)
+      go (number n) d e = ap (λ (r : NumberRead). asCell 0 (1 ∷ r .millionths ∷ r .decimals ∷ [])) e
 
   pub size-bad : r .ok ≡ false → q ≡ sizeOf (refused 6) → Judges sizeOf positive raw q
   unfolding judged numberRead
-  size-bad t h = record { says = λ l x. h ∙ go (numberOf (readValue l)) (as-read x reads) }
+  size-bad t h = record { says = λ l x. h ∙ go (numberOf (readValue l)) (decimalsOf (readValue l)) (as-read x reads) }
     where
-      go : (z : Number) → r ≡ numberRead z → sizeOf (refused 6) ≡ sizeOf (measured z)
-      go noNumber e = refl
-      go (number n) e = clash (sym (ap (λ (r : NumberRead). r .ok) e) ∙ t)
+      go : (z : Number) (d : ℕ) → r ≡ numberRead z d → sizeOf (refused 6) ≡ sizeOf (measured z d)
+      go noNumber d e = refl
+      go (number n) d e = clash (sym (ap (λ (r : NumberRead). r .ok) e) ∙ t)
 
 -- a value that passes a test
 when-by : (b : Bool) (v : Value) → cond b 0 6 ≡ refusalIn (when b v)

@@ -30,7 +30,7 @@ three (aWords (IsWords p)) l = refl
 three (aWhole NoWhole) l = refl
 three (aWhole (IsWhole n)) l = refl
 three (aMeasure NoMeasure) l = refl
-three (aMeasure (IsMeasure n)) l = refl
+three (aMeasure (IsMeasure n d)) l = refl
 three (aGuid g) l = refl
 three (aFeatures f) l = refl
 

@@ -93,7 +93,12 @@ pub fn size(raw: &[u8]) -> Tried
 {
     let n = value::number_at(raw);
     if n.ok {
-        return number(0, 1, n.millionths);
+        return Tried {
+            refusal: 0,
+            there: 1,
+            a: n.millionths,
+            b: n.decimals,
+        };
     }
     bad()
 }

@@ -1,20 +1,20 @@
 -- The theorems of the crate, for a reader to find: what is written reads back, how long it gets, and that no second answer meets a promise.
 use mathlib.Core.Path.{_≡_, subst, _∙_}
 use mathlib.Core.Bool.{Bool, true, false}
-use Prim.Native.Nat.{ℕ, _*_, _≤_}
+use Prim.Native.Nat.{ℕ, _*_, _≤_, max}
 use native.Mathlib.Omega.{arith}
 use lib.ListN.{length}
 use Rattle.grammar.specs.Bytes.{Bytes, text}
 use Rattle.model.specs.Tests.{same-test}
 use Rattle.number.specs.Bytes.{dropBack, keepBefore}
 use Rattle.number.specs.Whole.{int, intOf}
-use Rattle.number.specs.Positive.{number, numberOf}
+use Rattle.number.specs.Positive.{BEHIND, number, numberOf, decimalsOf}
 use Rattle.number.specs.Guid.{guidOf}
 use Rattle.number.specs.Version.{versionOf}
 use Rattle.value.specs.Text.{Text}
 use Rattle.printing.specs.Digits.{printInt, places}
 use Rattle.printing.proofs.PrintLaws.{print-small, print-more, int-digital, int-short}
-use Rattle.spelling.specs.Written.{escape, behindPoint, printDecimal}
+use Rattle.spelling.specs.Written.{escape, behindPoint, matter, printDecimal}
 use Rattle.spelling.specs.Characters.{IsText, TextSays}
 use Rattle.spelling.specs.Quoted.{InQuotes, AsIs}
 use Rattle.spelling.specs.Decided.{isText}
@@ -43,8 +43,8 @@ as-is-inverse {v} a = subst (λ (w : Bytes). InQuotes w v) (a .same) (escape-inv
 pub int-as-is : (n : ℕ) → AsIs (printInt n)
 int-as-is n = marks-as-is (printInt n) (digits-marks (printInt n) (int-digital n .digits))
 
-pub decimal-as-is : (x : ℕ) → AsIs (printDecimal x)
-decimal-as-is x = marks-as-is (printDecimal x) (decimals.decimal-marks x)
+pub decimal-as-is : (x d : ℕ) → AsIs (printDecimal x d)
+decimal-as-is x d = marks-as-is (printDecimal x d) (decimals.decimal-marks x d)
 
 pub guid-as-is : (v : Bytes) → guidOf v ≡ true → AsIs v
 guid-as-is v h = marks-as-is v (guid-marks v h)
@@ -56,11 +56,15 @@ version-as-is v h = marks-as-is v (version-marks v h)
 pub int-inverse : (n : ℕ) → intOf (printInt n) ≡ int false n
 int-inverse n = let d = int-digital n in digits-int (printInt n) (d .digits) (d .one) ∙ rw (d .worth)
 
-pub decimal-inverse : (x : ℕ) → 1 ≤ x → x ≤ 9999999999999 → numberOf (printDecimal x) ≡ number x
-decimal-inverse x l h = decimals.decimal-inverse x l h
+pub decimal-inverse : (x d : ℕ) → 1 ≤ x → x ≤ 9999999999999 → numberOf (printDecimal x d) ≡ number x
+decimal-inverse x d l h = decimals.decimal-inverse x d l h
+
+-- order 6: "Reading back gives the value and the count, or the number of digits that matter if that is more."
+pub decimals-inverse : (x d : ℕ) → d ≤ BEHIND → decimalsOf (printDecimal x d) ≡ max d (matter x)
+decimals-inverse x d h = decimals.decimals-inverse x d h
 
 -- the largest; its digits are too many to compute at once
-pub largest : printDecimal 9999999999999 ≡ text "9999999.999999"
+pub largest : printDecimal 9999999999999 0 ≡ text "9999999.999999"
 unfolding printDecimal places dropBack keepBefore behindPoint
 largest = rw (print-more 9999999 (omega arith), print-more 999999 (omega arith), print-more 99999 (omega arith), print-more 9999 (omega arith), print-more 999 (omega arith), print-more 99 (omega arith), print-small 9 (omega arith))
 
@@ -71,8 +75,8 @@ escape-long v = escapes.escape-long v
 pub int-long : (n : ℕ) → n ≤ 65535 → length (printInt n) ≤ 5
 int-long n h = int-short 4 n (omega arith)
 
-pub decimal-long : (x : ℕ) → x ≤ 9999999999999 → length (printDecimal x) ≤ 14
-decimal-long x h = decimals.decimal-short x h
+pub decimal-long : (x d : ℕ) → x ≤ 9999999999999 → length (printDecimal x d) ≤ 14
+decimal-long x d h = decimals.decimal-short x d h
 
 -- no second result meets the promise of `is_text`
 pub text-only : {v : Bytes} {r q : Bool} → TextSays v r → TextSays v q → r ≡ q

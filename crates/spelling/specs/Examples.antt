@@ -36,16 +36,21 @@ unfolding printInt digitsOf
 ints = (refl, refl, refl, refl, refl, refl)
 
 pub decimals :
-    (printDecimal 160500000 ≡ text "160.5")
-    × (printDecimal 1000000 ≡ text "1")
-    × (printDecimal 10000000 ≡ text "10")
-    × (printDecimal 999999 ≡ text "0.999999")
-    × (printDecimal 500000 ≡ text "0.5")
-    × (printDecimal 10 ≡ text "0.00001")
-    × (printDecimal 1 ≡ text "0.000001")
-    × (printDecimal 1000001 ≡ text "1.000001")
+    (printDecimal 160500000 0 ≡ text "160.5")
+    × (printDecimal 1000000 0 ≡ text "1")
+    × (printDecimal 10000000 0 ≡ text "10")
+    × (printDecimal 999999 0 ≡ text "0.999999")
+    × (printDecimal 500000 0 ≡ text "0.5")
+    × (printDecimal 10 0 ≡ text "0.00001")
+    × (printDecimal 1 0 ≡ text "0.000001")
+    × (printDecimal 1000001 0 ≡ text "1.000001")
+    × (printDecimal 160000000 2 ≡ text "160.00")
+    × (printDecimal 160500000 1 ≡ text "160.5")
+    × (printDecimal 160500000 3 ≡ text "160.500")
+    × (printDecimal 1000000 6 ≡ text "1.000000")
+    × (printDecimal 123456 2 ≡ text "0.123456")
 unfolding printDecimal printInt digitsOf places behindPoint dropBack keepBefore
-decimals = (refl, refl, refl, refl, refl, refl, refl, refl)
+decimals = (refl, refl, refl, refl, refl, refl, refl, refl, refl, refl, refl, refl, refl)
 
 -- "UTF-8 of the XML 1.0 characters (9, 10, 13 and hex 20 to D7FF, E000 to FFFD, 10000 to 10FFFF)": the ends of each range
 pub characters : spell (0x20 ∷ 0x7F ∷ 0x80 ∷ 0x7FF ∷ 0x800 ∷ 0xD7FF ∷ 0xE000 ∷ 0xFFFD ∷ 0x10000 ∷ 0x10FFFF ∷ [])

@@ -1,8 +1,11 @@
 // Decimals.
-ghost use Prim.Native.Nat.{_^_, _<_};
+ghost use mathlib.Core.Path.{_≡_};
+ghost use Prim.Native.Nat.{_≤_};
 ghost use Rattle.number.specs.Positive.{BEHIND};
+ghost use Rattle.printing.specs.Digits.{places};
 ghost use Rattle.printing.specs.Put.{Wrote, Countable};
-ghost use Rattle.spelling.specs.Written.{printPart, printDecimal};
+ghost use Rattle.spelling.specs.Written.{mattering, padded, printPart, printDecimal};
+use number::at_most_six;
 use printing::put_byte;
 use printing::put_digits;
 use printing::put_places;
@@ -10,29 +13,52 @@ use printing::put_places;
 // A whole, in millionths.
 const ONE: u64 = 1_000_000;
 
-// The point and the millionths n behind it, without zeros at the end.
-fn put_part(out: &mut [u8], at: usize, n: u64) -> usize
-    requires { ⌜ (n < 10 ^ BEHIND) × Countable at (printPart n) ⌝ }
-    ensures { λ r. ⌜ Wrote (now (out .entry)) at (printPart n) (now (out .exit)) r ⌝ }
+// Places behind the point.
+const PLACES: u64 = 6;
+
+// Digits behind the point: how many, and the number that they write.
+struct Part {
+    k: u64,
+    m: u64,
+}
+
+// The millionths n in six digits, without zeros at the end as long as more digits than `least` are left.
+fn cut(n: u64, least: u64) -> Part
+    requires { ⌜ least ≤ BEHIND ⌝ }
+    ensures { λ r. ⌜ (r .k ≤ BEHIND) × (places (r .k) (r .m) ≡ padded least (mattering n)) ⌝ }
 {
-    if n == 0 {
-        return at;
-    }
-    let mut k: usize = 6;
+    let mut k = PLACES;
     let mut m = n;
-    while m % 10 == 0 {
+    while least < k {
+        if m % 10 != 0 {
+            return Part { k, m };
+        }
         m /= 10;
         k -= 1;
     }
-    let behind = put_byte(out, at, b'.');
-    put_places(out, behind, k, m)
+    Part { k, m }
 }
 
-/// A decimal, and the next place.
-pub fn put_decimal(out: &mut [u8], at: usize, millionths: u64) -> usize
-    requires { ⌜ Countable at (printDecimal millionths) ⌝ }
-    ensures { λ r. ⌜ Wrote (now (out .entry)) at (printDecimal millionths) (now (out .exit)) r ⌝ }
+// The point and the millionths n behind it, without zeros at the end as long as more digits than `least` are left.
+fn put_part(out: &mut [u8], at: usize, n: u64, least: u64) -> usize
+    requires { ⌜ (least ≤ BEHIND) × Countable at (printPart n least) ⌝ }
+    ensures { λ r. ⌜ Wrote (now (out .entry)) at (printPart n least) (now (out .exit)) r ⌝ }
 {
+    let p = cut(n, least);
+    let k = p.k;
+    if k == 0 {
+        return at;
+    }
+    let behind = put_byte(out, at, b'.');
+    put_places(out, behind, k as usize, p.m)
+}
+
+/// A decimal with so many digits behind the point, or as many as matter, and the next place.
+pub fn put_decimal(out: &mut [u8], at: usize, millionths: u64, decimals: u64) -> usize
+    requires { ⌜ Countable at (printDecimal millionths decimals) ⌝ }
+    ensures { λ r. ⌜ Wrote (now (out .entry)) at (printDecimal millionths decimals) (now (out .exit)) r ⌝ }
+{
+    let least = at_most_six(decimals);
     let mid = put_digits(out, at, millionths / ONE);
-    put_part(out, mid, millionths % ONE)
+    put_part(out, mid, millionths % ONE, least)
 }

@@ -23,7 +23,7 @@ abbrev pub wholeAt : List ℕ → ℕ → Whole
 wholeAt c i = wholeBy (cellAt c (3 * i)) (cellAt c (3 * i + 1))
 
 abbrev pub measureAt : List ℕ → ℕ → Measure
-measureAt c i = measureBy (cellAt c (3 * i)) (cellAt c (3 * i + 1))
+measureAt c i = measureBy (cellAt c (3 * i)) (cellAt c (3 * i + 1)) (cellAt c (3 * i + 2))
 
 abbrev pub guidAt : List ℕ → ℕ → Bytes → Guid
 guidAt c i id = guidBy (cellAt c (3 * i)) id

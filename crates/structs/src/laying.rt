@@ -52,7 +52,7 @@ pub fn put_measure(cells: [u64; NUMBERS], i: usize, w: Measure) -> [u64; NUMBERS
 {
     match w {
         Measure::Absent => put(cells, i, 0, 0, 0),
-        Measure::Present(n) => put(cells, i, 1, n, 0),
+        Measure::Present(n, d) => put(cells, i, 1, n, d),
     }
 }
 

@@ -56,7 +56,7 @@ pub fn measure(cells: [u64; NUMBERS], i: usize) -> Measure
     if cells[at] == 0 {
         return Measure::Absent;
     }
-    Measure::Present(cells[at + 1])
+    Measure::Present(cells[at + 1], cells[at + 2])
 }
 
 pub fn guid(cells: [u64; NUMBERS], i: usize, id: [u8; 36]) -> Guid

@@ -7,7 +7,7 @@ use Prim.Native.String.{String}
 use lib.ListN.{length}
 use Rattle.number.specs.Bytes.{blank, digit, hex, nonEmpty, all, dropFront, keepBefore, dropBack, trim, valueFrom, before, behind, pointed}
 use Rattle.number.specs.Whole.{sized, signed, intOf}
-use Rattle.number.specs.Positive.{written, short, above, millionths as decimals, decimal, unsigned, parted, numberOf}
+use Rattle.number.specs.Positive.{written, short, above, millionths as decimals, decimal, unsigned, parted, numberOf, decimalsOf}
 use Rattle.number.specs.Guid.{may, filled, guidOf}
 use Rattle.number.specs.Version.{oneToThree, versionOf}
 use Rattle.grammar.specs.Bytes.{Bytes, text, within}
@@ -72,11 +72,11 @@ pub shapes :
     × (judged guid (text "01234567-89ab-cdef-0123-456789abcdeF") ≡ refused 6)
     × (judged version (text "1.6") ≡ present (aText (text "1.6")))
     × (judged version (text "1") ≡ refused 6)
-    × (judged positive (text "0.5") ≡ present (millionths 500000))
+    × (judged positive (text "0.5") ≡ present (millionths 500000 1))
     × (judged positive (text "0") ≡ refused 6)
     × (judged (whole 1 65535) (text "65535") ≡ present (anInt 65535))
     × (judged (whole 1 65535) (text "65536") ≡ refused 6)
-unfolding judged guidOf filled may hex versionOf oneToThree pointed intOf signed sized numberOf parted unsigned decimal written short above decimals before behind trim dropFront dropBack keepBefore blank digit all nonEmpty valueFrom within
+unfolding judged guidOf filled may hex versionOf oneToThree pointed intOf signed sized numberOf decimalsOf parted unsigned decimal written short above decimals before behind trim dropFront dropBack keepBefore blank digit all nonEmpty valueFrom within
 shapes = (refl, refl, refl, refl, refl, refl, refl, refl)
 
 -- each end of each range
@@ -106,7 +106,7 @@ pub forecasts :
     × Answers (tree (text "Hermes") [] (tree-then (tree (text "BoardForecast") (record { name = text "ForecastId"; value = many 81 } ∷ []) no-trees) no-trees)) 11 5
     × Answers (tree (text "Hermes") [] (tree-then (tree (text "MachineReady") ("FailedBoard" := "0" ∷ record { name = text "ForecastId"; value = many 80 } ∷ []) no-trees) no-trees)) 5 0
     × Answers (tree (text "Hermes") [] (tree-then (tree (text "MachineReady") ("FailedBoard" := "0" ∷ record { name = text "ForecastId"; value = many 81 } ∷ []) no-trees) no-trees)) 5 5
-unfolding table refusalOf tried judged guidOf filled may hex intOf signed sized numberOf parted unsigned decimal written short above decimals before behind trim dropFront dropBack keepBefore blank digit all nonEmpty valueFrom within
+unfolding table refusalOf tried judged guidOf filled may hex intOf signed sized numberOf decimalsOf parted unsigned decimal written short above decimals before behind trim dropFront dropBack keepBefore blank digit all nonEmpty valueFrom within
 forecasts = ((refl, refl), (refl, refl), (refl, refl), (refl, refl), (refl, refl), (refl, refl), (refl, refl), (refl, refl))
 
 -- "Route an int 0 to 65535, optional; BatchId text 80, optional", behind all that a BoardAvailable must say
@@ -179,9 +179,9 @@ with-another = ((refl, refl, refl), (refl, refl, refl), (refl, refl, refl), (ref
 -- not looked at, though bad; the others are
 pub without-another :
     Informs ("MadeBy" := "" ∷ []) 0 (absent ∷ absent ∷ absent ∷ [])
-    × Informs ("MadeBy" := "" ∷ "Weight" := "0.5" ∷ []) 0 (absent ∷ absent ∷ present (millionths 500000) ∷ [])
+    × Informs ("MadeBy" := "" ∷ "Weight" := "0.5" ∷ []) 0 (absent ∷ absent ∷ present (millionths 500000 1) ∷ [])
     × Informs ("MadeBy" := "m" ∷ "Weight" := "0" ∷ []) 6 (absent ∷ absent ∷ refused 6 ∷ [])
-unfolding refusalOf valuesOf tried judged numberOf parted unsigned decimal written short above decimals before behind trim dropFront dropBack keepBefore blank digit all nonEmpty valueFrom within
+unfolding refusalOf valuesOf tried judged numberOf decimalsOf parted unsigned decimal written short above decimals before behind trim dropFront dropBack keepBefore blank digit all nonEmpty valueFrom within
 without-another = ((refl, refl, refl), (refl, refl, refl), (refl, refl, refl))
 
 -- a name that is a kind of document 01 is none of this table

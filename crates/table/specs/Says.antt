@@ -5,18 +5,18 @@ use Prim.Native.Nat.{ℕ, zero, suc}
 use lib.ListN.{length}
 use lib.Dec.{leb}
 use Rattle.number.specs.Whole.{Whole, noInt, int, intOf}
-use Rattle.number.specs.Positive.{number, Number, noNumber, numberOf}
+use Rattle.number.specs.Positive.{number, Number, noNumber, numberOf, decimalsOf}
 use Rattle.number.specs.Guid.{guidOf}
 use Rattle.number.specs.Version.{versionOf}
 use Rattle.grammar.specs.Bytes.{Bytes, text, within, nonEmpty, same}
 use Rattle.grammar.specs.Tree.{Pair, Tree, tree, Forest, no-trees, tree-then}
 use Rattle.table.specs.Table.{Form, words, someWords, whole, guid, version, positive, features, Need, required, optional, requiredWith, ignored, Row, Entry, table, kindIn, rowsIn, settled}
 
--- a value as handed out: a text as read, an int, millionths, an id, the features noted
+-- a value as handed out: a text as read, an int, millionths and the digits behind the point, an id, the features noted
 pub data Value : Type 0 where
   aText : Bytes → Value
   anInt : ℕ → Value
-  millionths : ℕ → Value
+  millionths : ℕ → ℕ → Value
   anId : Bytes → Value
   noted : (forecast query send : Bool) → Value
 
@@ -49,9 +49,10 @@ abbrev pub ranged : ℕ → ℕ → Whole → Result
 ranged lo hi noInt = refused BAD
 ranged lo hi (int minus n) = when (not minus && within lo hi n) (anInt n)
 
-abbrev pub measured : Number → Result
-measured noNumber = refused BAD
-measured (number n) = present (millionths n)
+-- order 6: "Everyone who reads numbers passes the count along."
+abbrev pub measured : Number → ℕ → Result
+measured noNumber d = refused BAD
+measured (number n) d = present (millionths n d)
 
 -- what a value that is there is worth
 unfoldable pub judged : Form → Bytes → Result
@@ -60,7 +61,7 @@ judged (someWords n) v = limited n v (when (nonEmpty v) (aText v))
 judged (whole lo hi) v = ranged lo hi (intOf v)
 judged guid v = when (guidOf v) (anId v)
 judged version v = when (versionOf v) (aText v)
-judged positive v = measured (numberOf v)
+judged positive v = measured (numberOf v) (decimalsOf v)
 judged features v = refused BAD
 
 -- an attribute that is not there, and may be missing or not

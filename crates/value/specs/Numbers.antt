@@ -7,7 +7,7 @@ use lib.ListN.{length}
 use Rattle.grammar.specs.Bytes.{Bytes}
 use Rattle.grammar.specs.Value.{Item, readValue}
 use Rattle.number.specs.Whole.{intOf, capped, paper}
-use Rattle.number.specs.Positive.{noNumber, numberOf, numberRead}
+use Rattle.number.specs.Positive.{noNumber, numberOf, decimalsOf, numberRead}
 use Rattle.number.specs.Guid.{guidOf}
 use Rattle.number.specs.Version.{versionOf}
 use Rattle.number.specs.Scan.{run, step, start}
@@ -26,7 +26,7 @@ abbrev pub IntReads : Bytes → WholeRead → Type 0
 IntReads w r = Reads (λ v q. paper q ≡ capped (intOf v)) WholeRead.Bad w r
 
 abbrev pub NumberReads : Bytes → NumberRead → Type 0
-NumberReads w r = Reads (λ v q. q ≡ numberRead (numberOf v)) (numberRead noNumber) w r
+NumberReads w r = Reads (λ v q. q ≡ numberRead (numberOf v) (decimalsOf v)) (numberRead noNumber 0) w r
 
 abbrev pub GuidReads : Bytes → Bool → Type 0
 GuidReads w r = Reads (λ v q. q ≡ guidOf v) false w r

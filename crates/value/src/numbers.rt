@@ -77,6 +77,7 @@ pub fn number_at(raw: &[u8]) -> NumberRead
         return NumberRead {
             ok: false,
             millionths: 0,
+            decimals: 0,
         };
     };
     number::number_end(s)

@@ -69,7 +69,7 @@ there-put (someWords k) n t a b id texts h x = rw h refl
 there-put (whole lo hi) n t a b id texts h x = rw h (number-put n (printInt a) (int-as-is a .same))
 there-put guid n t a b id texts h x = rw h refl
 there-put version n t a b id texts h x = rw h refl
-there-put positive n t a b id texts h x = rw h (number-put n (printDecimal a) (decimal-as-is a .same))
+there-put positive n t a b id texts h x = rw h (number-put n (printDecimal a b) (decimal-as-is a b .same))
 there-put features n t a b id texts h x = clash x
 
 pub row-is : (c : Coded) (t a b : ℕ) (id texts : Bytes) {n : Bytes} → (t ≡ 0 → ⊥) → (c .form ≡ 0 → ⊥) → n ≡ nameAt (c .line) (c .len)
@@ -87,7 +87,7 @@ module _ (c : Coded) (a b : ℕ) (id texts : Bytes) where
   pub value-id : c .form ≡ 4 → formValue (rowOf c .form) a b id texts ≡ escape id
   value-id e = ap (λ (F : Form). formValue F a b id texts) (form-is c 4 e)
 
-  pub value-decimal : 5 < c .form → formValue (rowOf c .form) a b id texts ≡ printDecimal a
+  pub value-decimal : 5 < c .form → formValue (rowOf c .form) a b id texts ≡ printDecimal a b
   value-decimal h = ap (λ (F : Form). formValue F a b id texts) (form-last c (λ e. omega arith) (λ e. omega arith) (λ e. omega arith) (λ e. omega arith) (λ e. omega arith) (λ e. omega arith))
 
   pub value-text : (c .form ≡ 0 → ⊥) → (c .form ≡ 3 → ⊥) → (c .form ≡ 4 → ⊥) → c .form ≤ 5 → {v : Bytes} → v ≡ textAt texts (spanOf a b) → formValue (rowOf c .form) a b id texts ≡ escape v

@@ -1,11 +1,13 @@
 -- The refusal of one row, by its form.
 use mathlib.Core.Path.{_≡_, refl, sym, ap, _∙_}
-use mathlib.Core.Bool.{Bool, true, false, not, cond}
-use Prim.Native.Nat.{ℕ, zero, suc, _/_, _≤_, _<_}
-use lib.Dec.{eqb}
+use mathlib.Core.Bool.{Bool, true, false, _&&_, not, cond}
+use Prim.Native.Nat.{ℕ, zero, suc, _/_, _≤_, _<_, max}
+use lib.Dec.{eqb, leb}
 use borrow.Author.Tests.{ne-eqb, eq-eqb, le-leb, lt-leb}
 use Rattle.grammar.specs.Bytes.{Bytes, within}
+use Rattle.number.specs.Positive.{BEHIND}
 use Rattle.number.specs.Guid.{guidOf}
+use Rattle.spelling.specs.Written.{matter}
 use Rattle.value.specs.declared.text.Words.the-variants.{Absent as NoWords, Present as IsWords}
 use Rattle.table.specs.Table.{Row, Form, words, someWords, whole, guid, version, positive, features}
 use Rattle.table.specs.Says.{Value, anInt, millionths, anId, noted, present, when, without, refusalIn}
@@ -49,7 +51,7 @@ worthOf (someWords n) a b id texts = refusalIn (textMeant (someWords n) texts (s
 worthOf (whole lo hi) a b id texts = cond (within lo hi a) 0 6
 worthOf guid a b id texts = cond (guidOf id) 0 6
 worthOf version a b id texts = refusalIn (textMeant version texts (spanOf a b))
-worthOf positive a b id texts = cond (within 1 MOST a) 0 6
+worthOf positive a b id texts = cond (within 1 MOST a && leb b BEHIND) 0 6
 worthOf features a b id texts = 0
 
 by-when : (g : Bool) (v : Value) → refusalIn (when g v) ≡ cond g 0 6
@@ -63,7 +65,7 @@ there-worth (someWords k) o t a b id texts h = rw h refl
 there-worth (whole lo hi) o t a b id texts h = rw h (by-when (within lo hi a) (anInt a))
 there-worth guid o t a b id texts h = rw h (by-when (guidOf id) (anId id))
 there-worth version o t a b id texts h = rw h refl
-there-worth positive o t a b id texts h = rw h (by-when (within 1 MOST a) (millionths a))
+there-worth positive o t a b id texts h = rw h (by-when (within 1 MOST a && leb b BEHIND) (millionths a (max b (matter a))))
 there-worth features o t a b id texts h = rw h refl
 
 pub said : (c : Coded) (t a b : ℕ) (id texts : Bytes) {r : ℕ} (F : Form) → (t ≡ 0 → ⊥) → rowOf c .form ≡ F → r ≡ worthOf F a b id texts → r ≡ rowRefusal c t a b id texts
@@ -89,3 +91,18 @@ high lo hi k g h = rw (le-leb lo k g, lt-leb k hi h)
 pub right : (lo hi k : ℕ) → lo ≤ k → k ≤ hi → within lo hi k ≡ true
 unfolding within
 right lo hi k g h = rw (le-leb lo k g, le-leb k hi h)
+
+-- a measure: its count, then its millionths
+pub count-high : (lo hi a b : ℕ) → BEHIND < b → _≡_ {A = ℕ} (cond (within lo hi a && leb b BEHIND) 0 6) 6
+count-high lo hi a b h = rw (lt-leb b BEHIND h) (go (within lo hi a))
+  where
+    go : (t : Bool) → _≡_ {A = ℕ} (cond (t && false) 0 6) 6
+    go true = refl
+    go false = refl
+
+pub count-right : (lo hi a b : ℕ) → b ≤ BEHIND → _≡_ {A = ℕ} (cond (within lo hi a && leb b BEHIND) 0 6) (cond (within lo hi a) 0 6)
+count-right lo hi a b h = rw (le-leb b BEHIND h) (go (within lo hi a))
+  where
+    go : (t : Bool) → _≡_ {A = ℕ} (cond (t && true) 0 6) (cond t 0 6)
+    go true = refl
+    go false = refl

@@ -48,7 +48,7 @@ formValue (someWords n) a b id texts = escape (textAt texts (spanOf a b))
 formValue (whole lo hi) a b id texts = printInt a
 formValue guid a b id texts = escape id
 formValue version a b id texts = escape (textAt texts (spanOf a b))
-formValue positive a b id texts = printDecimal a
+formValue positive a b id texts = printDecimal a b
 formValue features a b id texts = []
 
 -- tags, and the features by their bits

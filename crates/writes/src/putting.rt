@@ -27,7 +27,7 @@ fn put_value(out: &mut [u8], at: usize, row: Row, a: u64, b: u64, id: &[u8], tex
         return put_digits(out, at, a);
     }
     if 5 < form {
-        return put_decimal(out, at, a);
+        return put_decimal(out, at, a, b);
     }
     if form == 4 {
         return put_escaped(out, at, id);

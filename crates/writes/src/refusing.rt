@@ -1,9 +1,11 @@
 // Why a message may not be sent: its rows in table order, the first that refuses decides.
 ghost use mathlib.Core.Path.{_≡_};
-ghost use mathlib.Core.Bool.{cond};
-ghost use lib.Dec.{eqb};
+ghost use mathlib.Core.Bool.{_&&_, cond};
+ghost use lib.Dec.{eqb, leb};
 ghost use Rattle.grammar.specs.Bytes.{within};
+ghost use Rattle.number.specs.Positive.{BEHIND};
 ghost use Rattle.number.specs.Guid.{guidOf};
+ghost use Rattle.meant.specs.Meant.{MOST as most};
 ghost use Rattle.table.specs.Table.{rowsOf};
 ghost use Rattle.table.specs.Says.{without, refusalIn};
 ghost use Rattle.rows.specs.Coding.{numbers as coding};
@@ -17,6 +19,9 @@ use value::Span;
 
 // The largest positive number, in millionths: seven digits before the point and six behind it.
 const MOST: u64 = 9_999_999_999_999;
+
+// The most digits behind the point.
+const PLACES: u64 = 6;
 
 // The refusal of a row that is not there.
 fn missing(need: u64) -> u8
@@ -38,6 +43,16 @@ fn ranged(a: u64, low: u64, high: u64) -> u8
         return 6;
     }
     0
+}
+
+// A positive number in millionths, with so many digits behind the point.
+fn a_measure(a: u64, decimals: u64) -> u8
+    ensures { λ r. ⌜ r ≡ cond (within 1 most a && leb decimals BEHIND) 0 6 ⌝ }
+{
+    if PLACES < decimals {
+        return 6;
+    }
+    ranged(a, 1, MOST)
 }
 
 fn an_id(id: &[u8]) -> u8
@@ -79,7 +94,7 @@ fn refusal_at(row: Row, t: u64, a: u64, b: u64, id: &[u8], texts: &[u8]) -> u8
     if form == 5 {
         return texts::a_version(texts, p);
     }
-    ranged(a, 1, MOST)
+    a_measure(a, b)
 }
 
 /// 4, 5 or 6 by the first row that refuses, or 0.

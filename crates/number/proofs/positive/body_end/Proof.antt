@@ -1,8 +1,7 @@
-use mathlib.Core.Path.{ap, _∙_}
-use Rattle.number.specs.Scan.{numberBodyEnd}
-use Rattle.number.specs.Positive.{numberRead}
+use mathlib.Core.Path.{_∙_}
+use Rattle.number.specs.Scan.{bodyEnd, numberBodyEnd, bodyDecimals}
 use Rattle.number.proofs.Picks.{known}
-use Rattle.number.proofs.Cases.{no-number}
+use Rattle.number.proofs.Cases.{no-end}
 use borrow.Author.Needs.{needs}
 use Rattle.number.proofs.positive.body_end.Statement.{statement}
 use Rattle.number.proofs.positive.body_end.Tie as tie
@@ -16,32 +15,32 @@ whole-end-requires c κs = search needs
 enum-known-body-2 : tie.Need-enum-known-body-2
 enum-known-body-2 c = search needs
 
-power-end-requires : tie.Need-power-end-requires
-power-end-requires c κs = search needs
+part-end-requires : tie.Need-part-end-requires
+part-end-requires c κs = search needs
 
 enum-known-body-3 : tie.Need-enum-known-body-3
 enum-known-body-3 c = search needs
 
-power-end-requires-2 : tie.Need-power-end-requires-2
-power-end-requires-2 c κs = search needs
+power-end-requires : tie.Need-power-end-requires
+power-end-requires c κs = search needs
 
 bad-number-requires : tie.Need-bad-number-requires
 bad-number-requires c κs = search needs
 
 returns : tie.Need-returns
-unfolding numberBodyEnd
-returns c = known (λ s. numberRead (numberBodyEnd s)) (c .before .before .body .given .1) (c .whole-end .ensures)
+unfolding bodyEnd numberBodyEnd bodyDecimals
+returns c = known bodyEnd (c .before .before .body .given .1) (c .whole-end .ensures)
 
 returns-2 : tie.Need-returns-2
-unfolding numberBodyEnd
-returns-2 c = known (λ s. numberRead (numberBodyEnd s)) (c .before .before .body2 .given .1) (c .power-end .ensures)
+unfolding bodyEnd numberBodyEnd bodyDecimals
+returns-2 c = known bodyEnd (c .before .before .body2 .given .1) (c .part-end .ensures)
 
 returns-3 : tie.Need-returns-3
-unfolding numberBodyEnd
-returns-3 c = known (λ s. numberRead (numberBodyEnd s)) (c .before .before .body3 .given .1) (c .power-end2 .ensures)
+unfolding bodyEnd numberBodyEnd bodyDecimals
+returns-3 c = known bodyEnd (c .before .before .body3 .given .1) (c .power-end .ensures)
 
 returns-4 : tie.Need-returns-4
-returns-4 c = c .bad-number .ensures ∙ ap numberRead (no-number _ (c .before .match .keys4))
+returns-4 c = c .bad-number .ensures ∙ no-end _ (c .before .match .keys4)
 
 pub body-end-spec : {M : Type 1} → statement M
 body-end-spec =
@@ -50,9 +49,9 @@ body-end-spec =
     enum-known-body
     whole-end-requires
     enum-known-body-2
-    power-end-requires
+    part-end-requires
     enum-known-body-3
-    power-end-requires-2
+    power-end-requires
     bad-number-requires
     returns
     returns-2

@@ -1,7 +1,7 @@
 -- `limit` is the definition: the product is cut at the top, which is none too, and the tests are the limits.
 use borrow.Author.Needs.{needs}
 use mathlib.Core.Path.{ap, _∙_}
-use Rattle.number.specs.Positive.{numberRead}
+use Rattle.number.specs.Positive.{Number, numberRead}
 use Rattle.number.proofs.CodeLaws.{limit-zero, limit-in, limit-top}
 use Rattle.number.proofs.positive.limit.Statement.{statement}
 use Rattle.number.proofs.positive.limit.Tie as tie
@@ -13,17 +13,17 @@ bad-number-requires : tie.Need-bad-number-requires
 bad-number-requires c κs = search needs
 
 returns : tie.Need-returns
-returns c = c .bad-number .ensures ∙ ap numberRead (limit-zero _ (c .before .before .shifted .ensures) (c .before .if1 .taken))
+returns c = c .bad-number .ensures ∙ ap (λ (x : Number). numberRead x 0) (limit-zero _ (c .before .before .shifted .ensures) (c .before .if1 .taken))
 
 returns-2 : tie.Need-returns-2
 unfolding numberRead
-returns-2 c = ap numberRead (limit-in _ (c .before .before .shifted .ensures) (c .before .if1 .left) (c .if2 .taken))
+returns-2 c = ap (λ (x : Number). numberRead x 0) (limit-in _ (c .before .before .shifted .ensures) (c .before .if1 .left) (c .if2 .taken))
 
 bad-number-requires-2 : tie.Need-bad-number-requires-2
 bad-number-requires-2 c κs = search needs
 
 returns-3 : tie.Need-returns-3
-returns-3 c = c .bad-number2 .ensures ∙ ap numberRead (limit-top _ (c .before .before .before .shifted .ensures) (c .before .if2 .left))
+returns-3 c = c .bad-number2 .ensures ∙ ap (λ (x : Number). numberRead x 0) (limit-top _ (c .before .before .before .shifted .ensures) (c .before .if2 .left))
 
 pub limit-spec : {M : Type 1} → statement M
 limit-spec =

@@ -1,6 +1,6 @@
 use mathlib.Core.Path.{ap, _∙_}
 use native.Mathlib.Omega.{arith}
-use Rattle.number.specs.Positive.{numberRead}
+use Rattle.number.specs.Positive.{Number, numberRead}
 use Rattle.number.proofs.CodeLaws.{scaled-top, scaled-up, scaled-down}
 use borrow.Author.Needs.{needs}
 use Rattle.number.proofs.positive.scaled.Statement.{statement}
@@ -10,13 +10,13 @@ bad-number-requires : tie.Need-bad-number-requires
 bad-number-requires c κs = search needs
 
 returns : tie.Need-returns
-returns c = c .bad-number .ensures ∙ ap numberRead (scaled-top (c .before .before .args .n) (c .before .before .args .up) (c .before .before .args .down) (c .before .if1 .taken))
+returns c = c .bad-number .ensures ∙ ap (λ (x : Number). numberRead x 0) (scaled-top (c .before .before .args .n) (c .before .before .args .up) (c .before .before .args .down) (c .before .if1 .taken))
 
 limit-requires : tie.Need-limit-requires
 limit-requires c κs = search needs
 
 returns-2 : tie.Need-returns-2
-returns-2 c = c .limit .ensures ∙ ap numberRead (scaled-up (c .before .before .before .args .n) (c .before .before .before .args .up) (c .before .before .before .args .down) (let h = c .before .before .if1 .left in omega arith) (c .before .if2 .taken))
+returns-2 c = c .limit .ensures ∙ ap (λ (x : Number). numberRead x 0) (scaled-up (c .before .before .before .args .n) (c .before .before .before .args .up) (c .before .before .before .args .down) (let h = c .before .before .if1 .left in omega arith) (c .before .if2 .taken))
 
 sub-lowered : tie.Need-sub-lowered
 sub-lowered c = search needs
@@ -25,7 +25,7 @@ lowered-requires : tie.Need-lowered-requires
 lowered-requires c κs = search needs
 
 returns-3 : tie.Need-returns-3
-returns-3 c = c .lowered .ensures ∙ ap numberRead (scaled-down (c .before .before .before .args .n) (c .before .before .before .args .up) (c .before .before .before .args .down) (let h = c .before .before .if1 .left in omega arith) (let h = c .before .if2 .left in omega arith))
+returns-3 c = c .lowered .ensures ∙ ap (λ (x : Number). numberRead x 0) (scaled-down (c .before .before .before .args .n) (c .before .before .before .args .up) (c .before .before .before .args .down) (let h = c .before .before .if1 .left in omega arith) (let h = c .before .if2 .left in omega arith))
 
 pub scaled-spec : {M : Type 1} → statement M
 scaled-spec =

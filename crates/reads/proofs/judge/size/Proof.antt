@@ -1,17 +1,15 @@
 -- Each answer by the number that was read.
 use Rattle.reads.proofs.JudgeLaws.{size-good, size-bad}
 use borrow.Author.Needs.{needs}
+use mathlib.Core.Path.{refl}
 use Rattle.reads.proofs.judge.size.Statement.{statement}
 use Rattle.reads.proofs.judge.size.Tie as tie
 
 number-at-requires : tie.Need-number-at-requires
 number-at-requires c κs = search needs
 
-number-requires : tie.Need-number-requires
-number-requires c κs = search needs
-
 returns : tie.Need-returns
-returns c = size-good (c .before .before .number-at .ensures) (c .before .if1 .taken) (c .number .ensures)
+returns c = size-good (c .before .number-at .ensures) (c .if1 .taken) refl
 
 bad-requires : tie.Need-bad-requires
 bad-requires c κs = search needs
@@ -20,4 +18,4 @@ returns-2 : tie.Need-returns-2
 returns-2 c = size-bad (c .before .before .number-at .ensures) (c .before .if1 .left) (c .bad .ensures)
 
 pub size-spec : {M : Type 1} → statement M
-size-spec = tie.close (tie.spec number-at-requires number-requires returns bad-requires returns-2)
+size-spec = tie.close (tie.spec number-at-requires returns bad-requires returns-2)

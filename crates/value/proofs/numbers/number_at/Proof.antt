@@ -3,7 +3,7 @@ use borrow.Author.Needs.{needs}
 use mathlib.Core.Path.{_≡_, refl, ap, _∙_}
 use native.Mathlib.Omega.{arith}
 use Rattle.number.specs.Scan.{numberEnd}
-use Rattle.number.specs.Positive.{noNumber, numberOf, numberRead}
+use Rattle.number.specs.Positive.{noNumber, numberOf, decimalsOf, numberRead}
 use Rattle.number.proofs.Theorems.{number-exact}
 use Rattle.value.proofs.NumberLaws.{plain-read, walk-read, walk-none}
 use Rattle.value.proofs.numbers.number_at.Statement.{statement}
@@ -29,13 +29,13 @@ enum-told c = search needs
 
 returns-2 : tie.Need-returns-2
 unfolding numberRead
-returns-2 c = walk-none (λ v q. q ≡ numberRead (numberOf v)) (numberRead noNumber) (c .before .before .walked .ensures) (c .enum-told .given .1) refl
+returns-2 c = walk-none (λ v q. q ≡ numberRead (numberOf v) (decimalsOf v)) (numberRead noNumber 0) (c .before .before .walked .ensures) (c .enum-told .given .1) refl
 
 number-end-requires : tie.Need-number-end-requires
 number-end-requires c κs = search needs
 
 returns-3 : tie.Need-returns-3
-returns-3 c = walk-read (λ v q. q ≡ numberRead (numberOf v)) (numberRead noNumber) (c .before .before .before .before .walked .ensures) (c .before .before .w .given .1) (λ v n e. c .number-end .ensures ∙ ap numberEnd e ∙ number-exact v (omega arith))
+returns-3 c = walk-read (λ v q. q ≡ numberRead (numberOf v) (decimalsOf v)) (numberRead noNumber 0) (c .before .before .before .before .walked .ensures) (c .before .before .w .given .1) (λ v n e. c .number-end .ensures ∙ ap numberEnd e ∙ number-exact v (omega arith))
 
 pub number-at-spec : {M : Type 1} → statement M
 number-at-spec =

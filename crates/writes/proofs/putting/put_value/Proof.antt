@@ -17,7 +17,7 @@ returns : tie.Need-returns
 returns c = same-put (value-int (c .before .before .before .before .before .before .before .before .args .row) (c .before .before .before .before .before .before .before .before .args .a) (c .before .before .before .before .before .before .before .before .args .b) (c .before .before .before .before .before .before .before .before .args .id .now) (c .before .before .before .before .before .before .before .before .args .texts .now) (c .before .before .before .before .if1 .taken)) (c .before .before .put-digits .ensures)
 
 put-decimal-requires : tie.Need-put-decimal-requires
-put-decimal-requires c κs = same-fits (c .before .before .before .before .before .before .args .at) (printDecimal (c .before .before .before .before .before .before .args .a)) (value-decimal (c .before .before .before .before .before .before .args .row) (c .before .before .before .before .before .before .args .a) (c .before .before .before .before .before .before .args .b) (c .before .before .before .before .before .before .args .id .now) (c .before .before .before .before .before .before .args .texts .now) (c .before .if2 .taken)) (c .before .before .before .before .before .before .pre .1)
+put-decimal-requires c κs = same-fits (c .before .before .before .before .before .before .args .at) (printDecimal (c .before .before .before .before .before .before .args .a) (c .before .before .before .before .before .before .args .b)) (value-decimal (c .before .before .before .before .before .before .args .row) (c .before .before .before .before .before .before .args .a) (c .before .before .before .before .before .before .args .b) (c .before .before .before .before .before .before .args .id .now) (c .before .before .before .before .before .before .args .texts .now) (c .before .if2 .taken)) (c .before .before .before .before .before .before .pre .1)
 
 same-length-2 : tie.Need-same-length-2
 same-length-2 c = search needs

@@ -45,11 +45,11 @@ a-version-requires c κs = search needs
 returns-7 : tie.Need-returns-7
 returns-7 c = said (c .before .before .before .before .before .before .before .before .before .before .args .row) (c .before .before .before .before .before .before .before .before .before .before .args .t) (c .before .before .before .before .before .before .before .before .before .before .args .a) (c .before .before .before .before .before .before .before .before .before .before .args .b) (c .before .before .before .before .before .before .before .before .before .before .args .id .now) (c .before .before .before .before .before .before .before .before .before .before .args .texts .now) version (c .before .before .before .before .before .before .before .if1 .left) (form-is (c .before .before .before .before .before .before .before .before .before .before .args .row) 5 (c .before .if7 .taken)) (c .a-version .ensures)
 
-ranged-requires-2 : tie.Need-ranged-requires-2
-ranged-requires-2 c κs = search needs
+a-measure-requires : tie.Need-a-measure-requires
+a-measure-requires c κs = search needs
 
 returns-8 : tie.Need-returns-8
-returns-8 c = said (c .before .before .before .before .before .before .before .before .before .before .args .row) (c .before .before .before .before .before .before .before .before .before .before .args .t) (c .before .before .before .before .before .before .before .before .before .before .args .a) (c .before .before .before .before .before .before .before .before .before .before .args .b) (c .before .before .before .before .before .before .before .before .before .before .args .id .now) (c .before .before .before .before .before .before .before .before .before .before .args .texts .now) positive (c .before .before .before .before .before .before .before .if1 .left) (form-last (c .before .before .before .before .before .before .before .before .before .before .args .row) (c .before .before .before .before .before .before .if2 .left) (c .before .before .before .before .before .if3 .left) (c .before .before .before .before .if4 .left) (c .before .before .before .if5 .left) (c .before .before .if6 .left) (c .before .if7 .left)) (c .ranged2 .ensures)
+returns-8 c = said (c .before .before .before .before .before .before .before .before .before .before .args .row) (c .before .before .before .before .before .before .before .before .before .before .args .t) (c .before .before .before .before .before .before .before .before .before .before .args .a) (c .before .before .before .before .before .before .before .before .before .before .args .b) (c .before .before .before .before .before .before .before .before .before .before .args .id .now) (c .before .before .before .before .before .before .before .before .before .before .args .texts .now) positive (c .before .before .before .before .before .before .before .if1 .left) (form-last (c .before .before .before .before .before .before .before .before .before .before .args .row) (c .before .before .before .before .before .before .if2 .left) (c .before .before .before .before .before .if3 .left) (c .before .before .before .before .if4 .left) (c .before .before .before .if5 .left) (c .before .before .if6 .left) (c .before .if7 .left)) (c .a-measure .ensures)
 
 pub refusal-at-spec : {M : Type 1} → statement M
 refusal-at-spec =
@@ -68,5 +68,5 @@ refusal-at-spec =
     returns-6
     a-version-requires
     returns-7
-    ranged-requires-2
+    a-measure-requires
     returns-8)
