@@ -132,7 +132,7 @@ enum {
 
 /* A message is its kind, and a cell of three numbers for each attribute of its kind, in the order of the standard's table. A cell says first
  * whether the value is there: 0 or 1; in a message to be sent any number but 0 is yes. What is absent is zero in a received message, and so are
- * `spare` and the cells behind the last attribute; in a message to be sent all these are ignored. */
+ * `spare`, the `decimals` of an int and the cells behind the last attribute; in a message to be sent all these are ignored. */
 
 /* A text. Received: the place of its raw value in the bytes that were received; tryphomel_words_text reads it. To be sent: the place of the
  * plain UTF-8 in the texts. In the cell of a BoardId only `there` counts: its bytes are the message's `id`. */
