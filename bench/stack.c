@@ -101,7 +101,7 @@ static void most(const char *name, void (*call)(void), size_t idle) {
 static void longest(int kind) {
     uint64_t *numbers = (uint64_t *)&message;
     tryphomel_words part = tryphomel_part(0, TRYPHOMEL_SHORT_TEXT), whole = tryphomel_part(0, TRYPHOMEL_LONG_TEXT);
-    for (int i = 0; i < TRYPHOMEL_NUMBERS; i++) numbers[i] = 1;
+    for (int i = 0; i < 1 + TRYPHOMEL_NUMBERS; i++) numbers[i] = 1;
     message.kind = (uint64_t)kind;
     tryphomel_name_board(&message, (const uint8_t *)"5d10d8c0-8c0a-4d5e-9f2b-0123456789ab");
     switch (kind) {

@@ -125,7 +125,7 @@ enum {
     TRYPHOMEL_ID_BYTES = 36,
     TRYPHOMEL_FORECAST_BYTES = 80,
     TRYPHOMEL_CELLS = 24,
-    TRYPHOMEL_NUMBERS = 73,
+    TRYPHOMEL_NUMBERS = 72,
     TRYPHOMEL_RECEIVE_ROOM = 525,
     TRYPHOMEL_SEND_ROOM = 6462
 };
@@ -152,7 +152,7 @@ typedef struct {
 } tryphomel_features;
 
 /* A message of any kind. `as` holds the cells of its kind alone: look at `kind` before reading one. `cells` are the same cells by number.
- * `kind` and `as` are the 73 numbers of the calls. */
+ * The calls take the numbers of the cells as one array. */
 typedef struct {
     uint64_t kind;
     union {
@@ -241,7 +241,7 @@ typedef struct {
 uint8_t tryphomel_read(const uint8_t *bytes, size_t size, uint64_t *start, uint64_t *place);
 
 /* What that message says. */
-uint8_t tryphomel_check(const uint8_t *bytes, size_t size, uint64_t numbers[TRYPHOMEL_NUMBERS], uint8_t id[TRYPHOMEL_ID_BYTES], uint64_t *start,
+uint8_t tryphomel_check(const uint8_t *bytes, size_t size, uint64_t *kind, uint64_t cells[TRYPHOMEL_NUMBERS], uint8_t id[TRYPHOMEL_ID_BYTES], uint64_t *start,
                         uint64_t *end, uint64_t *place);
 
 /* The text of a value: refusal 0, 4, 6 or 7; place 1: bytes[at..at+count], 2: scratch[0..count]. */
@@ -263,13 +263,13 @@ void tryphomel_lost(uint8_t side, uint8_t *state, uint8_t offered[TRYPHOMEL_ID_B
  * `out`; the rest of it is kept. */
 uint8_t tryphomel_receive(uint8_t side, uint8_t *state, uint8_t offered[TRYPHOMEL_ID_BYTES], uint8_t running[TRYPHOMEL_ID_BYTES],
                           uint8_t *forecast_length, uint8_t forecast[TRYPHOMEL_FORECAST_BYTES],
-                          const uint8_t *bytes, size_t size, uint8_t *out, size_t room, uint64_t numbers[TRYPHOMEL_NUMBERS],
+                          const uint8_t *bytes, size_t size, uint8_t *out, size_t room, uint64_t *kind, uint64_t cells[TRYPHOMEL_NUMBERS],
                           uint8_t id[TRYPHOMEL_ID_BYTES], uint8_t *order, uint64_t *used, uint64_t *written, uint64_t *place);
 
 /* Writes a message first into `out`, if the lane may send it. A kind above 255 counts as 255, and may not be sent. */
 uint8_t tryphomel_send(uint8_t side, uint8_t *state, uint8_t offered[TRYPHOMEL_ID_BYTES], uint8_t running[TRYPHOMEL_ID_BYTES],
                        uint8_t *forecast_length, uint8_t forecast[TRYPHOMEL_FORECAST_BYTES],
-                       const uint64_t numbers[TRYPHOMEL_NUMBERS], const uint8_t id[TRYPHOMEL_ID_BYTES], const uint8_t *texts, size_t size, uint8_t *out,
+                       uint64_t kind, const uint64_t cells[TRYPHOMEL_NUMBERS], const uint8_t id[TRYPHOMEL_ID_BYTES], const uint8_t *texts, size_t size, uint8_t *out,
                        size_t room, uint8_t *order, uint64_t *written);
 
 #ifdef __cplusplus
@@ -292,17 +292,17 @@ static inline void tryphomel_lane_lost(tryphomel_lane *lane) {
 
 static inline uint8_t tryphomel_lane_receive(tryphomel_lane *lane, const void *bytes, size_t size, void *out, size_t room, tryphomel_received *to) {
     return to->refusal = tryphomel_receive(lane->side, &lane->state, lane->offered, lane->running, &lane->forecast_length, lane->forecast,
-                                           (const uint8_t *)bytes, size, (uint8_t *)out, room, (uint64_t *)&to->message, to->message.id, &to->order, &to->used, &to->written, &to->place);
+                                           (const uint8_t *)bytes, size, (uint8_t *)out, room, &to->message.kind, (uint64_t *)&to->message.as, to->message.id, &to->order, &to->used, &to->written, &to->place);
 }
 
 static inline uint8_t tryphomel_lane_send(tryphomel_lane *lane, const tryphomel_message *message, const void *texts, size_t size, void *out, size_t room,
                                           tryphomel_sent *to) {
     return to->refusal = tryphomel_send(lane->side, &lane->state, lane->offered, lane->running, &lane->forecast_length, lane->forecast,
-                                        (const uint64_t *)message, message->id, (const uint8_t *)texts, size, (uint8_t *)out, room, &to->order, &to->written);
+                                        message->kind, (const uint64_t *)&message->as, message->id, (const uint8_t *)texts, size, (uint8_t *)out, room, &to->order, &to->written);
 }
 
 static inline uint8_t tryphomel_message_check(const void *bytes, size_t size, tryphomel_checked *to) {
-    return to->refusal = tryphomel_check((const uint8_t *)bytes, size, (uint64_t *)&to->message, to->message.id, &to->start, &to->end, &to->place);
+    return to->refusal = tryphomel_check((const uint8_t *)bytes, size, &to->message.kind, (uint64_t *)&to->message.as, to->message.id, &to->start, &to->end, &to->place);
 }
 
 /* The text of a received value: `*text` points into the bytes or the scratch, and is a null pointer if the text is refused. */

@@ -17,7 +17,7 @@ FITS(cells, sizeof(tryphomel_words) == 24 && sizeof(tryphomel_number) == 24 && s
 FITS(words, offsetof(tryphomel_words, there) == 0 && offsetof(tryphomel_words, start) == 8 && offsetof(tryphomel_words, len) == 16);
 FITS(number, offsetof(tryphomel_number, there) == 0 && offsetof(tryphomel_number, value) == 8 && offsetof(tryphomel_number, decimals) == 16);
 FITS(features, offsetof(tryphomel_features, there) == 0 && offsetof(tryphomel_features, bits) == 8 && offsetof(tryphomel_features, spare) == 16);
-FITS(numbers, TRYPHOMEL_CELLS == 24 && TRYPHOMEL_NUMBERS == 1 + 3 * TRYPHOMEL_CELLS && AT(kind, 0) && CELL(cells, 0) && CELL(cells[23], 23));
+FITS(numbers, TRYPHOMEL_CELLS == 24 && TRYPHOMEL_NUMBERS == 3 * TRYPHOMEL_CELLS && AT(kind, 0) && CELL(cells, 0) && CELL(cells[23], 23));
 FITS(service, CELL(service.machine, 0) && CELL(service.lane, 1) && CELL(service.version, 2) && CELL(service.features, 3));
 FITS(notification, CELL(notification.code, 0) && CELL(notification.severity, 1) && CELL(notification.description, 2));
 FITS(board, CELL(board.id, 0) && CELL(board.by, 1) && CELL(board.failed, 2) && CELL(board.product, 3) && CELL(board.flipped, 4) && CELL(board.top, 5) &&
@@ -32,7 +32,7 @@ FITS(forecast, CELL(forecast.forecast, 0) && CELL(forecast.until, 1) && CELL(for
                    CELL(forecast.product, 5) && CELL(forecast.flipped, 6) && CELL(forecast.top, 7) && CELL(forecast.bottom, 8) && CELL(forecast.order, 16));
 FITS(forecast_measures, CELL(forecast.length, 9) && CELL(forecast.width, 10) && CELL(forecast.thickness, 11) && CELL(forecast.speed, 12) &&
                             CELL(forecast.above, 13) && CELL(forecast.below, 14) && CELL(forecast.weight, 15));
-FITS(id, AT(id, TRYPHOMEL_NUMBERS) && sizeof(((tryphomel_message *)0)->as) == 576 && sizeof(((tryphomel_message *)0)->id) == TRYPHOMEL_ID_BYTES);
+FITS(id, AT(id, 1 + TRYPHOMEL_NUMBERS) && sizeof(((tryphomel_message *)0)->as) == 576 && sizeof(((tryphomel_message *)0)->id) == TRYPHOMEL_ID_BYTES);
 
 static int passed, failed;
 

@@ -139,7 +139,7 @@ inline void on_send(const uint8_t *bytes, size_t n, const Dials &d, bool high) {
     tryphomel_checked c, back;
     tryphomel_sent s;
     tryphomel_message_check(bytes, n, &c);
-    if (d.there % 2) ((uint64_t *)&c.message)[d.there % TRYPHOMEL_NUMBERS] = d.start;
+    if (d.there % 2) ((uint64_t *)&c.message)[d.there % (1 + TRYPHOMEL_NUMBERS)] = d.start;
     tryphomel_lane lane = lane_of(d), before = lane;
     Out out(fence, d.out, high);
     memset(&s, 9, sizeof s);

@@ -166,8 +166,8 @@ fn moves(s: &[u8], v: &[u8]) {
         carries: 0 < v.len(),
         forecast,
     };
-    moved(b"received ", lane, lane.received(event));
-    moved(b"; sent ", lane, lane.sent(event));
+    moved(b"received ", lane, moves::received(lane, event));
+    moved(b"; sent ", lane, moves::sent(lane, event));
     put(b"\n");
 }
 

@@ -3,8 +3,8 @@ use crate::line::byte;
 use crate::show::put;
 use crate::show::told;
 use number::NumberRead;
-use number::Scan;
 use number::WholeRead;
+use numerals::Scan;
 use routes::RouteClass;
 
 fn whole(r: WholeRead) {
@@ -74,17 +74,17 @@ fn in_two(v: &[u8], cut: usize) {
     let start = Scan::start();
     let half = scan(start, v, 0, cut);
     let all = scan(half, v, cut, v.len());
-    whole(number::int_end(all));
+    whole(numerals::int_end(all));
 }
 
 /// `int`, `number`, `guid`, `version`, `Route`, and `two CUT`: an Int whose first bytes stand apart.
 pub fn worth(letter: u8, v: &[u8], cut: usize) {
     match letter {
-        b'i' => whole(number::int_of(v)),
-        b'n' => positive(number::number_of(v)),
-        b'g' => yes(number::is_guid(v)),
-        b'v' => yes(number::is_version(v)),
-        b'R' => class(number::int_of(v)),
+        b'i' => whole(numerals::int_of(v)),
+        b'n' => positive(numerals::number_of(v)),
+        b'g' => yes(shapes::is_guid(v)),
+        b'v' => yes(shapes::is_version(v)),
+        b'R' => class(numerals::int_of(v)),
         _ => in_two(v, cut),
     }
 }

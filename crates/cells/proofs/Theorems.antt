@@ -1,4 +1,4 @@
--- What the promises of `cell`, `clear`, `kind_in`, `text_from`, `blank` and `named_id` determine: each is an equation.
+-- What the promises of `cell`, `clear`, `kind_from`, `text_from`, `blank` and `named_id` determine: each is an equation.
 use mathlib.Core.Path.{_≡_, sym, _∙_}
 
 -- no second result meets it

@@ -3,9 +3,8 @@ mod ids;
 mod numbers;
 
 pub use ids::named_id;
-pub use numbers::NUMBERS;
 pub use numbers::blank;
 pub use numbers::cell;
 pub use numbers::clear;
-pub use numbers::kind_in;
+pub use numbers::kind_from;
 pub use numbers::text_from;

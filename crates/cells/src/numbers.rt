@@ -1,30 +1,20 @@
-// The numbers of a message: its kind, and then its cells.
+// The numbers of a message: its kind and its cells.
 ghost use mathlib.Core.Path.{_≡_};
 ghost use lib.ListN.{length, replicate};
 ghost use Rattle.message.specs.Cells.{cellAt, wordsBy};
-ghost use Rattle.message.specs.Messages.{atMost, kindIn, blank as blankOf};
+ghost use Rattle.message.specs.Messages.{atMost, blank as blankOf};
 use message::Message;
 use value::Span;
 use value::Words;
 
-/// How many numbers a message is: its kind and its cells.
-pub const NUMBERS: usize = 73;
-
-// A kind is a byte: a larger number counts as the largest, which is none.
-fn kind_from(n: u64) -> u8
+/// A kind is a byte: a larger number counts as the largest, which is none.
+pub fn kind_from(n: u64) -> u8
     ensures { λ r. ⌜ r ≡ atMost 255 n ⌝ }
 {
     if n <= 255 {
         return n as u8;
     }
     255
-}
-
-/// The kind of a message as numbers. That all numbers are there is known of an array that is handed over by value; the compiler drops the copy.
-pub fn kind_in(numbers: [u64; NUMBERS]) -> u8
-    ensures { λ r. ⌜ (r ≡ kindIn numbers) × (length numbers ≡ 73) ⌝ }
-{
-    kind_from(numbers[0])
 }
 
 /// The number that stands there; 0 behind the end.

@@ -15,8 +15,8 @@ fn read_at(s: &[u8], p: Span) -> Forecast
     ensures { λ r. ⌜ Reads (now (s .entry)) p r ⌝ }
 {
     let mut scratch = [0u8; 80];
-    let at = value::text_decode(s, Words::Present(p), &mut scratch);
-    kept(value::text_part(s, &scratch, at))
+    let at = texts::text_decode(s, Words::Present(p), &mut scratch);
+    kept(texts::text_part(s, &scratch, at))
 }
 
 /// What the chart looks at in a message of s. Its ForecastId, if it has one, reads as at most 80 bytes.

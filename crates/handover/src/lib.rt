@@ -3,10 +3,10 @@ mod receiving;
 mod sending;
 
 pub use lane::Lane;
-pub use receiving::Receipt;
-pub use receiving::Received;
+pub use promises::Receipt;
+pub use promises::Received;
+pub use promises::Sent;
 pub use receiving::receive;
 pub use receiving::receive_into;
-pub use sending::Sent;
 pub use sending::send;
 pub use sending::send_from;

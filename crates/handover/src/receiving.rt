@@ -4,7 +4,7 @@ ghost use mathlib.Core.Bool.{true};
 ghost use lib.ListN.{replicate};
 ghost use Rattle.message.specs.Cells.{NUMBERS as MANY};
 ghost use Rattle.events.specs.Says.{Sound};
-ghost use Rattle.handover.specs.Receiving.{asksBy, movedFor, noReceipt, refusedBy, toldBy, Answers, Finishes, Receives, ReceivesInto};
+ghost use Rattle.promises.specs.Receiving.{asksBy, movedFor, noReceipt, refusedBy, toldBy, Answers, Finishes, Receives, ReceivesInto};
 use cells::clear;
 use cells::text_from;
 use events::received_event;
@@ -15,33 +15,11 @@ use lane::Moved;
 use lane::Order;
 use message::Message;
 use message::cells::NUMBERS;
+use promises::Receipt;
+use promises::Received;
 use reads::Found;
 use value::Words;
 use writes::Written;
-
-/// What receiving answers: the refusal; the lane after it and the belt order; how many bytes of the input are used, how many of the buffer
-/// are written; the place of a malformed byte; and an accepted message.
-pub struct Received {
-    pub refusal: u8,
-    pub lane: Lane,
-    pub order: u8,
-    pub used: usize,
-    pub written: usize,
-    pub place: usize,
-    pub message: Message,
-}
-
-/// The same, but for what the message says: its kind and its BoardId.
-pub struct Receipt {
-    pub refusal: u8,
-    pub lane: Lane,
-    pub order: u8,
-    pub used: usize,
-    pub written: usize,
-    pub place: usize,
-    pub kind: u8,
-    pub id: [u8; 36],
-}
 
 // Whether a message is a CheckAlive of Type 1, by its first cell.
 fn asks_reply(kind: u8, there: u64, n: u64) -> bool
@@ -61,7 +39,7 @@ fn moved_by(lane: Lane, refusal: u8, event: Event) -> Moved
     ensures { λ r. ⌜ r ≡ movedFor lane refusal event ⌝ }
 {
     if refusal == 0 {
-        return lane.received(event);
+        return moves::received(lane, event);
     }
     if refusal == 1 {
         return Moved {
@@ -70,7 +48,7 @@ fn moved_by(lane: Lane, refusal: u8, event: Event) -> Moved
             order: Order::NONE,
         };
     }
-    lane.ended(refusal)
+    moves::ended(lane, refusal)
 }
 
 // What is written back; `asks` says that a reply is, to a CheckAlive with that Id.

@@ -1,6 +1,6 @@
 // Sending: whether a message may be sent, what it does to the lane, and its bytes.
 ghost use mathlib.Core.Path.{_≡_};
-ghost use Rattle.handover.specs.Sending.{kept as keptBy, mayNot, Sends};
+ghost use Rattle.promises.specs.Sending.{kept as keptBy, mayNot, Sends};
 ghost use Rattle.message.specs.Messages.{messageBy};
 ghost use Rattle.writes.specs.Writes.{Writes};
 use cells::named_id;
@@ -9,15 +9,8 @@ use lane::Lane;
 use lane::Order;
 use lane::Refusal;
 use message::Message;
+use promises::Sent;
 use writes::Written;
-
-/// What sending answers: the refusal; the lane after it and the belt order; and how many bytes of the buffer are written.
-pub struct Sent {
-    pub refusal: u8,
-    pub lane: Lane,
-    pub order: u8,
-    pub written: usize,
-}
 
 // A refusal keeps the lane.
 fn kept(lane: Lane, refusal: u8) -> Sent
@@ -63,7 +56,7 @@ pub fn send_from(
 {
     let named = named_id(kind, cells, id);
     let event = sent_event(kind, cells, named, texts);
-    let moved = lane.sent(event);
+    let moved = moves::sent(lane, event);
     if moved.refusal != 0 {
         return kept(lane, may_not(kind, cells, id, texts));
     }

@@ -1,7 +1,7 @@
 // A lane record: its side, its state, the offered and the running BoardId, the ForecastId that is kept with its length.
 ghost use Rattle.lane.specs.Names.{U, D};
 ghost use Rattle.lane.specs.Record.{fresh, blank};
-ghost use Rattle.hermes_c.specs.Lanes.{laneOf, Lent};
+ghost use Rattle.c_promises.specs.Lanes.{laneOf, Lent};
 use lane::Forecast;
 use lane::Lane;
 

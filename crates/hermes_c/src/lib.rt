@@ -1,13 +1,14 @@
 // The library's calls for C: numbers, byte slices and arrays of numbers only. A slice is a pointer and then its length. What is lent to a
 // call does not overlap.
+mod asking;
 mod checking;
 mod lanes;
 mod reading;
 mod receiving;
 mod routing;
 mod sending;
-mod texts;
 
+pub use asking::tryphomel_text;
 pub use checking::tryphomel_check;
 pub use lanes::tryphomel_downstream;
 pub use lanes::tryphomel_lost;
@@ -16,4 +17,3 @@ pub use reading::tryphomel_read;
 pub use receiving::tryphomel_receive;
 pub use routing::tryphomel_route_class;
 pub use sending::tryphomel_send;
-pub use texts::tryphomel_text;

@@ -1,5 +1,5 @@
 // Where a message starts and ends.
-ghost use Rattle.hermes_c.specs.Reading.{Told};
+ghost use Rattle.c_promises.specs.Reading.{Told};
 use reader::answer::Answer;
 
 /// What stands behind the glue in front of the bytes: the answer's number; where it starts, glue dropped; and the end of a

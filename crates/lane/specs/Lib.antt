@@ -21,4 +21,3 @@ pub mod Only
 pub mod Laws
 pub mod IdLaws
 pub mod OrderLaws
-pub mod Entry

@@ -68,17 +68,6 @@ idCell k = guidCellIn NUMBERS (rowsOf k) 0
 abbrev pub idBy : ℕ → List ℕ → Bytes → Bytes
 idBy at cells id = cond (leb NUMBERS at) (noId .bytes) (cond (isThere (cellAt cells at)) id (noId .bytes))
 
--- a message as numbers alone: its kind, then its cells
-abbrev pub numbersOf : Message → List ℕ
-numbersOf m = m .kind ∷ m .cells
-
 -- a number that is too large for its place counts as the largest one there
 abbrev pub atMost : ℕ → ℕ → ℕ
 atMost most n = cond (leb n most) n most
-
-abbrev pub kindIn : List ℕ → ℕ
-kindIn numbers = atMost 255 (getD numbers 0 0)
-
--- and back, with its BoardId
-unfoldable pub messageOf : List ℕ → Bytes → Message
-messageOf numbers id = messageBy (kindIn numbers) (drop 1 numbers) id

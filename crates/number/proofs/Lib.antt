@@ -1,15 +1,3 @@
 pub mod Tests
-pub mod Trim
 pub mod Powers
-pub mod TenLaws
-pub mod DigitLaws
-pub mod DecimalLaws
-pub mod IntLaws
-pub mod NumberLaws
-pub mod GuidLaws
-pub mod VersionLaws
-pub mod Theorems
-pub mod Picks
 pub mod Classes
-pub mod Cases
-pub mod CodeLaws

@@ -14,8 +14,8 @@ use Rattle.model.specs.Tests.{every-append}
 use Rattle.number.specs.Bytes.{Bytes, digit, zeroDigit, figure, nonEmpty, all, dropBack, keepBefore, trim, valueFrom, value, before, behind}
 use Rattle.number.specs.Positive.{BEFORE, BEHIND, number, written, short, millionths, above, decimal, unsigned, parted, powered, zeros, decimalOf, numberOf, decimalsIn, decimalsOf}
 use Rattle.number.proofs.Powers.{shift, few}
-use Rattle.number.proofs.NumberLaws.{digit-no-mark}
-use Rattle.number.proofs.DecimalLaws.{zeros-digits, both-digits}
+use Rattle.numerals.proofs.NumberLaws.{digit-no-mark}
+use Rattle.numerals.proofs.DecimalLaws.{zeros-digits, both-digits}
 use Rattle.number.proofs.Tests.{cases, and-left, and-right, digit-low}
 use Rattle.printing.specs.Digits.{lastDigit, printInt, places}
 use Rattle.spelling.specs.Written.{behindPoint, mattering, matter, padded, printPart, printDecimal}

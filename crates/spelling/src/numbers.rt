@@ -5,7 +5,7 @@ ghost use Rattle.number.specs.Positive.{BEHIND};
 ghost use Rattle.printing.specs.Digits.{places};
 ghost use Rattle.printing.specs.Put.{Wrote, Countable};
 ghost use Rattle.spelling.specs.Written.{mattering, padded, printPart, printDecimal};
-use number::at_most_six;
+use numerals::at_most_six;
 use printing::put_byte;
 use printing::put_digits;
 use printing::put_places;

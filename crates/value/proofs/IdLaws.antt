@@ -20,7 +20,7 @@ use Rattle.value.specs.Loose.{Loose}
 use Rattle.value.specs.Decoded.{Put, Decoded}
 use Rattle.number.specs.Version.{versionOf}
 use Rattle.number.proofs.Tests.{and-left, and-right}
-use Rattle.number.proofs.VersionLaws.{too-long}
+use Rattle.shapes.proofs.VersionLaws.{too-long}
 use Rattle.value.specs.Numbers.{read, unread, GuidReads, VersionReads}
 use Rattle.value.specs.Ids.{noId, idRead, IdReads}
 use Rattle.value.specs.declared.decode.Length.{Length}

@@ -8,9 +8,9 @@ use lib.ListN.{length}
 use Rattle.grammar.specs.Bytes.{Bytes}
 use Rattle.grammar.specs.Character.{utf8}
 use Rattle.grammar.specs.Value.{readValue}
-use Rattle.number.specs.Scan.{run, step, start}
-use Rattle.number.specs.declared.scan.Scan.{Scan}
-use Rattle.number.proofs.Theorems.{scanned-on}
+use Rattle.numerals.specs.Scan.{run, step, start}
+use Rattle.numerals.specs.declared.scan.Scan.{Scan}
+use Rattle.numerals.proofs.Theorems.{scanned-on}
 use Rattle.tags.proofs.Answers.{Fails}
 use Rattle.tags.specs.declared.Piece.{Piece}
 use Rattle.value.specs.Walk.{Taken, Walked, walked-start, walked-step, walked-end, walked-fail}

@@ -10,7 +10,7 @@ use Rattle.model.specs.Values.{itemP}
 use Rattle.exact.specs.Exact.{done}
 use Rattle.grammar.specs.Bytes.{Bytes}
 use Rattle.grammar.specs.Value.{Item, spellItem, spellValue, GoodItem, GoodValue, good-last, good-item, readValue}
-use Rattle.number.proofs.Theorems.{int-only, number-only, guid-only, version-only}
+use Rattle.numerals.proofs.Theorems.{int-only, number-only, guid-only, version-only}
 use Rattle.number.specs.declared.whole.WholeRead.{WholeRead}
 use Rattle.number.specs.declared.positive.NumberRead.{NumberRead}
 use Rattle.value.specs.Size.{some-bytes}

@@ -10,7 +10,7 @@ use Rattle.number.specs.Whole.{intOf, capped, paper}
 use Rattle.number.specs.Positive.{noNumber, numberOf, decimalsOf, numberRead}
 use Rattle.number.specs.Guid.{guidOf}
 use Rattle.number.specs.Version.{versionOf}
-use Rattle.number.specs.Scan.{run, step, start}
+use Rattle.numerals.specs.Scan.{run, step, start}
 use Rattle.number.specs.declared.whole.WholeRead.{WholeRead}
 use Rattle.number.specs.declared.positive.NumberRead.{NumberRead}
 use Rattle.value.specs.Loose.{Loose}

@@ -33,7 +33,7 @@ pub fn id_at(raw: &[u8]) -> Guid
     if n != 36 {
         return no_id();
     }
-    if number::is_guid(&bytes) {
+    if shapes::is_guid(&bytes) {
         return Guid { there: true, bytes };
     }
     no_id()
@@ -43,7 +43,7 @@ pub fn id_at(raw: &[u8]) -> Guid
 pub fn guid_at(raw: &[u8]) -> bool
     ensures { λ r. ⌜ GuidReads (now (raw .entry)) r ⌝ }
 {
-    if number::is_guid(raw) {
+    if shapes::is_guid(raw) {
         return true;
     }
     let g = id_at(raw);
@@ -62,7 +62,7 @@ fn version_decoded(raw: &[u8]) -> bool
     if 7 < n {
         return false;
     }
-    number::is_version(&bytes[..n])
+    shapes::is_version(&bytes[..n])
 }
 
 /// Whether it is a Version, as the value reads.
@@ -70,7 +70,7 @@ pub fn version_at(raw: &[u8]) -> bool
     ensures { λ r. ⌜ VersionReads (now (raw .entry)) r ⌝ }
 {
     if is_plain(raw) {
-        return number::is_version(raw);
+        return shapes::is_version(raw);
     }
     version_decoded(raw)
 }

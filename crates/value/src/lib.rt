@@ -1,16 +1,12 @@
 // The text of a value: what stands between an attribute's quotes, as it reads.
-mod ask;
-mod decode;
+pub mod decode;
 mod id;
 mod numbers;
-mod part;
 mod tests;
 mod text;
 mod units;
 mod utf8;
 
-pub use ask::ask_text;
-pub use ask::refusal_of;
 pub use decode::Length;
 pub use decode::text_len;
 pub use id::Guid;
@@ -19,8 +15,8 @@ pub use id::id_at;
 pub use id::version_at;
 pub use numbers::int_at;
 pub use numbers::number_at;
-pub use part::text_part;
+pub use tests::is_as_read;
+pub use tests::is_quotable;
 pub use text::Span;
 pub use text::TextAt;
 pub use text::Words;
-pub use text::text_decode;

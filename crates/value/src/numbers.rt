@@ -2,15 +2,15 @@
 ghost use mathlib.Core.Path.{_≡_};
 ghost use Prim.Native.Nat.{_≤_};
 ghost use Rattle.grammar.specs.Character.{utf8};
-ghost use Rattle.number.specs.Scan.{run, step};
+ghost use Rattle.numerals.specs.Scan.{run, step};
 ghost use Rattle.value.specs.Numbers.{WalkSays, IntReads, NumberReads};
 use crate::tests::is_plain;
 use crate::units::unit;
 use crate::utf8::utf8_byte;
 use crate::utf8::utf8_len;
 use number::NumberRead;
-use number::Scan;
 use number::WholeRead;
+use numerals::Scan;
 use tags::Piece;
 
 /// The scan of what a value reads as, or that the bytes are no items.
@@ -56,13 +56,13 @@ pub fn int_at(raw: &[u8]) -> WholeRead
     ensures { λ r. ⌜ IntReads (now (raw .entry)) r ⌝ }
 {
     if is_plain(raw) {
-        return number::int_of(raw);
+        return numerals::int_of(raw);
     }
     let w = walked(raw);
     let Walk::Read(s) = w else {
         return WholeRead::Bad;
     };
-    number::int_end(s)
+    numerals::int_end(s)
 }
 
 /// A positive number, as the value reads.
@@ -70,7 +70,7 @@ pub fn number_at(raw: &[u8]) -> NumberRead
     ensures { λ r. ⌜ NumberReads (now (raw .entry)) r ⌝ }
 {
     if is_plain(raw) {
-        return number::number_of(raw);
+        return numerals::number_of(raw);
     }
     let w = walked(raw);
     let Walk::Read(s) = w else {
@@ -80,5 +80,5 @@ pub fn number_at(raw: &[u8]) -> NumberRead
             decimals: 0,
         };
     };
-    number::number_end(s)
+    numerals::number_end(s)
 }

@@ -58,7 +58,7 @@ fn a_measure(a: u64, decimals: u64) -> u8
 fn an_id(id: &[u8]) -> u8
     ensures { λ r. ⌜ r ≡ cond (guidOf (now (id .entry))) 0 6 ⌝ }
 {
-    if number::is_guid(id) {
+    if shapes::is_guid(id) {
         return 0;
     }
     6

@@ -72,7 +72,7 @@ pub fn a_version(texts: &[u8], p: Span) -> u8
 {
     if is_sendable(texts, p) {
         let v = part(texts, p);
-        if number::is_version(v) {
+        if shapes::is_version(v) {
             return 0;
         }
         return 6;

@@ -29,9 +29,9 @@ pub fn reply(s: &[u8], id: Words, out: &mut [u8]) -> Written
     ensures { λ r. ⌜ Replies (now (s .entry)) id (now (out .entry)) (now (out .exit)) r ⌝ }
 {
     let mut scratch = [0u8; 80];
-    let at = value::text_decode(s, id, &mut scratch);
-    let v = value::text_part(s, &scratch, at);
-    match value::refusal_of(at) {
+    let at = texts::text_decode(s, id, &mut scratch);
+    let v = texts::text_part(s, &scratch, at);
+    match texts::refusal_of(at) {
         0 => reply_with(v, out),
         4 => reply_bare(out),
         6 => Written {

@@ -7,8 +7,8 @@ use Rattle.events.proofs.receiving.read_at.Tie as tie
 use Rattle.events.proofs.receiving.read_at.Reads as reads
 use Rattle.events.proofs.receiving.read_at.Lts as lts
 use Rattle.events.proofs.named.kept.Reads as kept-reads
-use Rattle.value.proofs.text_part.Reads as text-part-reads
-use Rattle.value.proofs.text_decode.Reads as text-decode-reads
+use Rattle.texts.proofs.text_part.Reads as text-part-reads
+use Rattle.texts.proofs.text_decode.Reads as text-decode-reads
 
 -- src/receiving.rt:18:55
 slice-aggregate-text-decode : tie.Need-slice-aggregate-text-decode

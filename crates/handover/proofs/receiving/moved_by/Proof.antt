@@ -1,12 +1,12 @@
 -- By the refusal.
-use Rattle.handover.proofs.IdLaws.{moved-on, moved-kept, moved-ended}
+use Rattle.promises.proofs.IdLaws.{moved-on, moved-kept, moved-ended}
 use borrow.Author.Needs.{needs}
 use Rattle.handover.proofs.receiving.moved_by.Statement.{statement}
 use Rattle.handover.proofs.receiving.moved_by.Tie as tie
 use Rattle.handover.proofs.receiving.moved_by.Reads as reads
 use Rattle.handover.proofs.receiving.moved_by.Lts as lts
-use Rattle.lane.proofs.Lane.ended.Reads as ended-reads
-use Rattle.lane.proofs.Lane.received.Reads as received-reads
+use Rattle.moves.proofs.ended.Reads as ended-reads
+use Rattle.moves.proofs.received.Reads as received-reads
 
 received-requires : tie.Need-received-requires
 received-requires c κs = search needs

@@ -1,5 +1,5 @@
 -- By the chart, then by what writing answers.
-use Rattle.handover.proofs.SendLaws.{moved-by, is-not-sent, is-refused, is-sent}
+use Rattle.promises.proofs.SendLaws.{moved-by, is-not-sent, is-refused, is-sent}
 use borrow.Author.Needs.{needs}
 use Rattle.handover.proofs.sending.send_from.Statement.{statement}
 use Rattle.handover.proofs.sending.send_from.Tie as tie
@@ -9,7 +9,7 @@ use Rattle.cells.proofs.named_id.Reads as named-id-reads
 use Rattle.handover.proofs.sending.kept.Reads as kept-reads
 use Rattle.handover.proofs.sending.may_not.Reads as may-not-reads
 use Rattle.events.proofs.sent_event.Reads as sent-event-reads
-use Rattle.lane.proofs.Lane.sent.Reads as sent-reads
+use Rattle.moves.proofs.sent.Reads as sent-reads
 use Rattle.handover.proofs.sending.put.Reads as put-reads
 
 named-id-requires : tie.Need-named-id-requires

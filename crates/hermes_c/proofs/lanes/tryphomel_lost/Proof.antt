@@ -1,5 +1,5 @@
 -- The side is kept.
-use Rattle.hermes_c.proofs.LaneLaws.{lost-parts}
+use Rattle.c_promises.proofs.LaneLaws.{lost-parts}
 use borrow.Author.Needs.{needs}
 use Rattle.hermes_c.proofs.lanes.tryphomel_lost.Statement.{statement}
 use Rattle.hermes_c.proofs.lanes.tryphomel_lost.Tie as tie

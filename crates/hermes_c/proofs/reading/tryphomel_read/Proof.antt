@@ -1,5 +1,5 @@
 -- The numbers that C is handed are those of the answer.
-use Rattle.hermes_c.proofs.ReadLaws.{told}
+use Rattle.c_promises.proofs.ReadLaws.{told}
 use borrow.Author.Needs.{needs}
 use Rattle.hermes_c.proofs.reading.tryphomel_read.Statement.{statement}
 use Rattle.hermes_c.proofs.reading.tryphomel_read.Tie as tie

@@ -3,7 +3,7 @@ use mathlib.Core.Path.{refl}
 use Prim.Native.Nat.{_-_}
 use native.Mathlib.Omega.{arith}
 use Rattle.grammar.specs.Character.{utf8}
-use Rattle.number.proofs.CodeLaws.{Passed, passed-none, passed-more, passed-all}
+use Rattle.numerals.proofs.CodeLaws.{Passed, passed-none, passed-more, passed-all}
 use Rattle.value.proofs.numbers.char_step.Statement.{statement}
 use Rattle.value.proofs.numbers.char_step.Tie as tie
 

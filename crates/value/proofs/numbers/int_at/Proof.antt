@@ -1,10 +1,10 @@
 -- A plain value is read where it stands, another by the walk.
 use borrow.Author.Needs.{needs}
 use mathlib.Core.Path.{_≡_, refl, ap, _∙_}
-use Rattle.number.specs.Scan.{intEnd}
+use Rattle.numerals.specs.Scan.{intEnd}
 use Rattle.number.specs.Whole.{intOf, capped, paper}
 use Rattle.number.specs.declared.whole.WholeRead.{WholeRead}
-use Rattle.number.proofs.Theorems.{int-exact}
+use Rattle.numerals.proofs.Theorems.{int-exact}
 use Rattle.value.proofs.NumberLaws.{plain-read, walk-read, walk-none}
 use Rattle.value.proofs.numbers.int_at.Statement.{statement}
 use Rattle.value.proofs.numbers.int_at.Tie as tie

@@ -2,9 +2,9 @@
 use borrow.Author.Needs.{needs}
 use mathlib.Core.Path.{_≡_, refl, ap, _∙_}
 use native.Mathlib.Omega.{arith}
-use Rattle.number.specs.Scan.{numberEnd}
+use Rattle.numerals.specs.Scan.{numberEnd}
 use Rattle.number.specs.Positive.{noNumber, numberOf, decimalsOf, numberRead}
-use Rattle.number.proofs.Theorems.{number-exact}
+use Rattle.numerals.proofs.Theorems.{number-exact}
 use Rattle.value.proofs.NumberLaws.{plain-read, walk-read, walk-none}
 use Rattle.value.proofs.numbers.number_at.Statement.{statement}
 use Rattle.value.proofs.numbers.number_at.Tie as tie

@@ -8,9 +8,9 @@ use Rattle.written_back.proofs.alive.reply.Reads as reads
 use Rattle.written_back.proofs.alive.reply.Lts as lts
 use Rattle.written_back.proofs.alive.reply_bare.Reads as reply-bare-reads
 use Rattle.written_back.proofs.alive.reply_with.Reads as reply-with-reads
-use Rattle.value.proofs.refusal_of.Reads as refusal-of-reads
-use Rattle.value.proofs.text_part.Reads as text-part-reads
-use Rattle.value.proofs.text_decode.Reads as text-decode-reads
+use Rattle.texts.proofs.refusal_of.Reads as refusal-of-reads
+use Rattle.texts.proofs.text_part.Reads as text-part-reads
+use Rattle.texts.proofs.text_decode.Reads as text-decode-reads
 
 slice-aggregate-text-decode : tie.Need-slice-aggregate-text-decode
 slice-aggregate-text-decode c = search needs

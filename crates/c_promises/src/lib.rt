@@ -1,0 +1,1 @@
+// What the calls for C promise: definitions and theorems, no functions.

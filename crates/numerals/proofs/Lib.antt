@@ -1,0 +1,10 @@
+pub mod Trim
+pub mod TenLaws
+pub mod DigitLaws
+pub mod DecimalLaws
+pub mod IntLaws
+pub mod NumberLaws
+pub mod Theorems
+pub mod Picks
+pub mod Cases
+pub mod CodeLaws

@@ -1,0 +1,67 @@
+-- `Ends::step` is the definition, case by case.
+use mathlib.Core.Bool.{Bool}
+use Rattle.numerals.specs.declared.ends.Ends.{Ends}
+use borrow.Author.Needs.{needs}
+use mathlib.Core.Path.{refl, ap, _∙_}
+use Rattle.numerals.specs.Scan.{endsStep}
+use Rattle.number.specs.Bytes.{pick}
+use Rattle.numerals.proofs.Picks.{known}
+use Rattle.numerals.proofs.ends.Ends.step.Statement.{statement}
+use Rattle.numerals.proofs.ends.Ends.step.Tie as tie
+
+is-blank-requires : tie.Need-is-blank-requires
+is-blank-requires c κs = search needs
+
+enum-told : tie.Need-enum-told
+enum-told c = search needs
+
+either-requires : tie.Need-either-requires
+either-requires c κs = search needs
+
+enum-told-2 : tie.Need-enum-told-2
+enum-told-2 c = search needs
+
+either-requires-2 : tie.Need-either-requires-2
+either-requires-2 c κs = search needs
+
+enum-told-3 : tie.Need-enum-told-3
+enum-told-3 c = search needs
+
+either-requires-3 : tie.Need-either-requires-3
+either-requires-3 c κs = search needs
+
+enum-told-4 : tie.Need-enum-told-4
+enum-told-4 c = search needs
+
+returns : tie.Need-returns
+unfolding endsStep
+returns c = known (λ s. endsStep s (c .before .before .before .before .args .b)) (c .before .enum-told .given .1) (c .either .ensures ∙ ap (λ (t : Bool). pick t Ends.Front Ends.Inside) (c .before .before .before .is-blank .ensures))
+
+returns-2 : tie.Need-returns-2
+unfolding endsStep
+returns-2 c = known (λ s. endsStep s (c .before .before .before .before .args .b)) (c .before .enum-told2 .given .1) (c .either2 .ensures ∙ ap (λ (t : Bool). pick t Ends.Behind Ends.Inside) (c .before .before .before .is-blank .ensures))
+
+returns-3 : tie.Need-returns-3
+unfolding endsStep
+returns-3 c = known (λ s. endsStep s (c .before .before .before .before .args .b)) (c .before .enum-told3 .given .1) (c .either3 .ensures ∙ ap (λ (t : Bool). pick t Ends.Behind Ends.Broken) (c .before .before .before .is-blank .ensures))
+
+returns-4 : tie.Need-returns-4
+unfolding endsStep
+returns-4 c = known (λ s. endsStep s (c .before .before .before .args .b)) (c .enum-told4 .given .1) refl
+
+pub step-spec : {M : Type 1} → statement M
+step-spec =
+    tie.close
+    (tie.spec
+    is-blank-requires
+    enum-told
+    either-requires
+    enum-told-2
+    either-requires-2
+    enum-told-3
+    either-requires-3
+    enum-told-4
+    returns
+    returns-2
+    returns-3
+    returns-4)

@@ -1,0 +1,54 @@
+-- The loop keeps the state after the bytes passed.
+use native.Mathlib.Omega.{arith}
+use mathlib.Core.Path.{refl}
+use Prim.Native.Nat.{_-_}
+use lib.ListN.{length}
+use Rattle.numerals.specs.Scan.{start}
+use Rattle.numerals.proofs.CodeLaws.{Passed, passed-none, passed-more, passed-all}
+use Rattle.numerals.proofs.scan.scanned.Statement.{statement}
+use Rattle.numerals.proofs.scan.scanned.Tie as tie
+
+abbrev Inv-loop : tie.InvT-loop
+Inv-loop v s₀ i₀ s i = Passed start v i s
+
+abbrev μ-loop : tie.MeasureT-loop
+μ-loop v s₀ i₀ s i = length v - i
+
+start-requires : tie.Need-start-requires Inv-loop μ-loop
+start-requires c κs = tt
+
+loop-holds : tie.Need-loop-holds Inv-loop μ-loop
+loop-holds c = passed-none start _ (c .start .ensures)
+
+shared-slice-read-step : tie.Need-shared-slice-read-step Inv-loop μ-loop
+shared-slice-read-step c = omega arith
+
+step-requires : tie.Need-step-requires Inv-loop μ-loop
+step-requires c κs = tt
+
+add-i : tie.Need-add-i Inv-loop μ-loop
+add-i c = omega arith
+
+loop-less : tie.Need-loop-less Inv-loop μ-loop
+loop-less c = omega arith
+
+loop-again : tie.Need-loop-again Inv-loop μ-loop
+loop-again c = passed-more start _ (c .before .before .before .loop .inv) (c .before .before .loop-test .taken) refl (c .step .ensures)
+
+returns : tie.Need-returns Inv-loop μ-loop
+returns c = passed-all start _ (c .before .loop .inv) (c .loop-test .left)
+
+pub scanned-spec : {M : Type 1} → statement M
+scanned-spec =
+    tie.close
+    (tie.spec
+    Inv-loop
+    μ-loop
+    start-requires
+    loop-holds
+    shared-slice-read-step
+    step-requires
+    add-i
+    loop-less
+    loop-again
+    returns)

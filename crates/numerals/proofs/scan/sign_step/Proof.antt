@@ -1,0 +1,44 @@
+-- `sign_step` is the definition, test by test.
+use mathlib.Core.Path.{sym, _∙_}
+use Rattle.numerals.specs.Scan.{signStep}
+use Rattle.numerals.proofs.Picks.{picks}
+use borrow.Author.Needs.{needs}
+use Rattle.numerals.proofs.scan.sign_step.Statement.{statement}
+use Rattle.numerals.proofs.scan.sign_step.Tie as tie
+
+is-digit-requires : tie.Need-is-digit-requires
+is-digit-requires c κs = search needs
+
+no-digits-requires : tie.Need-no-digits-requires
+no-digits-requires c κs = search needs
+
+whole-digit-requires : tie.Need-whole-digit-requires
+whole-digit-requires c κs = search needs
+
+returns : tie.Need-returns
+unfolding signStep
+returns c = rw (sym (c .before .before .before .is-digit .ensures) ∙ c .before .before .if1 .taken, c .whole-digit .ensures, c .before .no-digits .ensures)
+
+returns-2 : tie.Need-returns-2
+unfolding signStep
+returns-2 c = search picks
+
+returns-3 : tie.Need-returns-3
+unfolding signStep
+returns-3 c = search picks
+
+returns-4 : tie.Need-returns-4
+unfolding signStep
+returns-4 c = search picks
+
+pub sign-step-spec : {M : Type 1} → statement M
+sign-step-spec =
+    tie.close
+    (tie.spec
+    is-digit-requires
+    no-digits-requires
+    whole-digit-requires
+    returns
+    returns-2
+    returns-3
+    returns-4)

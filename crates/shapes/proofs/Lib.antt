@@ -1,0 +1,2 @@
+pub mod GuidLaws
+pub mod VersionLaws
