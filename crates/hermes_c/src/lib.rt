@@ -7,6 +7,7 @@ mod receiving;
 mod routing;
 mod sending;
 mod texts;
+mod versions;
 
 pub use checking::tryphomel_check;
 pub use lanes::tryphomel_downstream;
@@ -17,3 +18,4 @@ pub use receiving::tryphomel_receive;
 pub use routing::tryphomel_route_class;
 pub use sending::tryphomel_send;
 pub use texts::tryphomel_text;
+pub use versions::tryphomel_version;
