@@ -50,7 +50,7 @@ static int count_rows(uint8_t side, uint8_t state, const struct happening *now) 
 static int must_have(enum event event) { return event == TROUBLE || event == REFUSED || event == NO_ROOM || event == NOT_SENT || event == LOST; }
 
 static int bad(uint8_t side, uint8_t state, const char *what, int n) {
-    printf("%d rows: side %u, %s, %s\n", n, side, state_name(state), what);
+    printf("%d rows: side %u, %s, %s\n", n, side, tryphomel_state_name(state), what);
     return 1;
 }
 
