@@ -235,8 +235,10 @@ void machine_send(struct machine *m, uint64_t kind) {
     send_message(m, kind, kind == TRYPHOMEL_STOP_TRANSPORT || kind == TRYPHOMEL_TRANSPORT_FINISHED ? TRYPHOMEL_COMPLETE : 0);
 }
 
+static int is_blank(uint8_t b) { return b == ' ' || b == '\t' || b == '\r' || b == '\n'; }
+
 void machine_drop(struct machine *m, size_t count) {
-    while (count < m->held && memchr(" \t\r\n", m->in[count], 4) != NULL) count++;
+    while (count < m->held && is_blank(m->in[count])) count++;
     m->held -= count;
     memmove(m->in, m->in + count, m->held);
 }

@@ -72,7 +72,7 @@ static int bad_in(uint8_t side, uint8_t state) {
 int rows_complete(void) {
     int wrong = 0;
     for (size_t i = 0; i < BELT_ROW_COUNT; i++) printf("%s\n", BELT_ROWS[i].name);
-    for (uint8_t side = TRYPHOMEL_UPSTREAM; side <= TRYPHOMEL_DOWNSTREAM; side++)
-        for (uint8_t state = TRYPHOMEL_NOT_CONNECTED; state <= TRYPHOMEL_FINISHED; state++) wrong += bad_in(side, state);
+    for (int side = TRYPHOMEL_UPSTREAM; side <= TRYPHOMEL_DOWNSTREAM; side++)
+        for (int state = TRYPHOMEL_NOT_CONNECTED; state <= TRYPHOMEL_FINISHED; state++) wrong += bad_in((uint8_t)side, (uint8_t)state);
     return wrong == 0;
 }
