@@ -395,8 +395,12 @@ static inline uint8_t tryphomel_words_text(tryphomel_words words, const void *by
     uint64_t place, at;
     uint8_t refusal = tryphomel_text(TRYPHOMEL_AS(const uint8_t *, bytes), size, words.there != 0, words.start, words.len,
                                      TRYPHOMEL_AS(uint8_t *, scratch), room, &place, &at, count);
-    const void *whole = place == TRYPHOMEL_IN_SCRATCH ? scratch : bytes == TRYPHOMEL_NO_POINTER ? "" : bytes;
-    *text = refusal == TRYPHOMEL_ACCEPTED ? TRYPHOMEL_AS(const uint8_t *, whole) + at : TRYPHOMEL_NO_POINTER;
+    if (refusal != TRYPHOMEL_ACCEPTED)
+        *text = TRYPHOMEL_NO_POINTER;
+    else if (place == TRYPHOMEL_IN_SCRATCH)
+        *text = TRYPHOMEL_AS(const uint8_t *, scratch);
+    else
+        *text = bytes == TRYPHOMEL_NO_POINTER ? TRYPHOMEL_AS(const uint8_t *, "") : TRYPHOMEL_AS(const uint8_t *, bytes) + at;
     return refusal;
 }
 
