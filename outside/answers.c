@@ -10,11 +10,18 @@ enum { MOST = 80000, DIALS = 16, ROOM = 7000 };
 static uint8_t in[MOST], dials[DIALS], out[ROOM], scratch[512];
 static size_t size;
 
-/* A number, seven bits to a byte. It is taken as the calls hand it over: what a processor leaves beside a byte in a register would show. */
+/* A number, seven bits to a byte. */
 static void tell(uint64_t n) {
     for (; n > 127; n >>= 7) putchar((int)(n & 127) | 128);
     putchar((int)n);
 }
+
+/* An answer in a byte, as its register has it: on 32-bit Arm compilers take the bits beside it for zeros, and what is there would show. */
+#define TELL_ANSWER(call) \
+    do { \
+        volatile unsigned whole = (call); \
+        tell(whole); \
+    } while (0)
 
 static void tell_bytes(const uint8_t *bytes, uint64_t count) {
     tell(count);
@@ -60,7 +67,7 @@ static tryphomel_lane lane_of(const tryphomel_message *m) {
 static void asks(uint8_t there, uint64_t start, uint64_t len) {
     uint64_t place = 9, at = 9, count = 9;
     memset(scratch, '#', sizeof scratch);
-    tell(tryphomel_text(in, size, there, start, len, scratch, dials[4] * 2u, &place, &at, &count));
+    TELL_ANSWER(tryphomel_text(in, size, there, start, len, scratch, dials[4] * 2u, &place, &at, &count));
     tell(place);
     tell(at);
     tell(count);
@@ -69,7 +76,7 @@ static void asks(uint8_t there, uint64_t start, uint64_t len) {
 
 static void reads(void) {
     uint64_t start = 9, place = 9;
-    tell(tryphomel_read(in, size, &start, &place));
+    TELL_ANSWER(tryphomel_read(in, size, &start, &place));
     tell(start);
     tell(place);
 }
@@ -78,7 +85,7 @@ static tryphomel_checked checks(void) {
     tryphomel_checked c;
     int i;
     memset(&c, 0xa5, sizeof c);
-    tell(tryphomel_message_check(in, size, &c));
+    TELL_ANSWER(tryphomel_message_check(in, size, &c));
     tell(c.start);
     tell(c.end);
     tell(c.place);
@@ -92,7 +99,7 @@ static void receives(tryphomel_lane l) {
     tryphomel_received r;
     memset(&r, 0xa5, sizeof r);
     memset(out, '#', sizeof out);
-    tell(tryphomel_lane_receive(&l, in, size, out, dials[5] % 4 ? TRYPHOMEL_RECEIVE_ROOM : dials[6], &r));
+    TELL_ANSWER(tryphomel_lane_receive(&l, in, size, out, dials[5] % 4 ? TRYPHOMEL_RECEIVE_ROOM : dials[6], &r));
     tell(r.order);
     tell(r.used);
     tell(r.written);
@@ -112,7 +119,7 @@ static void sends(tryphomel_lane l, tryphomel_message m) {
     if (dials[7] & 1) ((uint64_t *)&m)[dials[8] % TRYPHOMEL_NUMBERS] = dials[7] & 2 ? UINT64_MAX - dials[9] : dials[9];
     if (m.kind == 0) m.kind = dials[10] % 13;
     if (dials[7] & 4) memset(&m.as, dials[9] % 3, sizeof m.as);
-    tell(tryphomel_lane_send(&l, &m, in + beside, size - beside, out, dials[7] & 8 ? dials[11] * 4u : sizeof out, &s));
+    TELL_ANSWER(tryphomel_lane_send(&l, &m, in + beside, size - beside, out, dials[7] & 8 ? dials[11] * 4u : sizeof out, &s));
     tell(s.order);
     tell(s.written);
     tell_lane(&l);
@@ -151,7 +158,7 @@ int main(void) {
         receives(l);
         sends(l, c.message);
         lanes(l);
-        tell(tryphomel_route_class((uint64_t)dials[13] * 5 + ((uint64_t)dials[15] << (dials[14] % 57))));
+        TELL_ANSWER(tryphomel_route_class((uint64_t)dials[13] * 5 + ((uint64_t)dials[15] << (dials[14] % 57))));
     }
     return fflush(stdout) != 0;
 }
