@@ -3,24 +3,27 @@
 #define _XOPEN_SOURCE 700
 #include <stdio.h>
 #include <string.h>
+#ifdef __linux__
 #include <ucontext.h>
+#endif
 
 #include "../include/tryphomel.h"
 
 enum { STACK = 1 << 20, ROOM = 70000 };
 
-static unsigned char stack[STACK];
 static char in[ROOM];
 static uint8_t out[TRYPHOMEL_SEND_ROOM];
 static size_t size;
-static ucontext_t here, there;
 static tryphomel_lane lane;
 static tryphomel_message message;
 static tryphomel_checked checked;
 static tryphomel_received received;
 static tryphomel_sent sent;
 
+#ifdef __linux__
 static size_t used_by(void (*call)(void)) {
+    static unsigned char stack[STACK];
+    static ucontext_t here, there;
     size_t free_bytes = 0;
     memset(stack, 0xa5, sizeof stack);
     getcontext(&there);
@@ -32,6 +35,18 @@ static size_t used_by(void (*call)(void)) {
     while (free_bytes < sizeof stack && stack[free_bytes] == 0xa5) free_bytes++;
     return sizeof stack - free_bytes;
 }
+#else
+/* A board with no system (Cortex-M): the stack below this function is filled, as far as any call goes. */
+static size_t used_by(void (*call)(void)) {
+    volatile unsigned char *top, *at;
+    __asm__ volatile("mov %0, sp" : "=r"(top));
+    for (at = top - (STACK >> 4); at < top; at++) *at = 0xa5;
+    call();
+    for (at = top - (STACK >> 4); at < top && *at == 0xa5; at++) {
+    }
+    return (size_t)(top - at);
+}
+#endif
 
 static void nothing(void) {}
 static void reads(void) {
@@ -94,7 +109,7 @@ static void most(const char *name, void (*call)(void), size_t idle) {
             if (n > bytes) bytes = n;
         }
     }
-    printf("  %-18s %6zu bytes\n", name, bytes);
+    printf("  %-18s %6lu bytes\n", name, (unsigned long)bytes);
 }
 
 /* A message of that kind that is as long as it can be. */
@@ -139,7 +154,7 @@ static void most_sent(size_t idle) {
                 size_t n = used_by(sends) - idle;
                 if (n > bytes) bytes = n;
             }
-    printf("  %-18s %6zu bytes\n", "tryphomel_send", bytes);
+    printf("  %-18s %6lu bytes\n", "tryphomel_send", (unsigned long)bytes);
 }
 
 int main(void) {

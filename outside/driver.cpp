@@ -5,9 +5,8 @@
 #include <map>
 #include <string>
 
-#include "damage.hpp"
+#include "inputs.hpp"
 #include "judge.hpp"
-#include "make.hpp"
 #include "ours.hpp"
 #include "peers.hpp"
 #include "random.hpp"
@@ -58,30 +57,6 @@ Bytes as_ten(Bytes d) {
     size_t q = begins(d, 0, "<?xml") ? d.find_first_of("\"'") : Bytes::npos;
     if (q != Bytes::npos && begins(d, q + 1, "1.1") && q + 4 < d.size() && d[q + 4] == d[q]) d[q + 3] = '0';
     return d;
-}
-
-Bytes glue(Random &r) {
-    static const char bytes[] = {' ', '\t', '\r', '\n'};
-    Bytes s;
-    for (unsigned n = r.below(4); n; n--) s += r.of(bytes);
-    return s;
-}
-
-// A message, or one that is widened or damaged.
-Made message(Random &r) {
-    Made m = Maker(r, r.one_in(12) ? widened(r) : Wide()).message();
-    if (r.one_in(2000)) stretch(r, m, r.from_to(65530, 65542));
-    if (r.one_in(16)) add_foreign(r, m);
-    if (r.one_in(2)) return m;
-    for (unsigned n = r.one_in(4) ? r.from_to(2, 4) : 1; n; n--) damage(r, m);
-    return m;
-}
-
-Bytes input(Random &r) {
-    Bytes s = message(r).bytes;
-    if (r.one_in(8)) s = glue(r) + s;
-    if (r.one_in(8)) s += r.one_in(2) ? glue(r) + message(r).bytes : piece(r);
-    return s;
 }
 
 std::string shown(const Verdict &v) {
@@ -171,7 +146,7 @@ void stream(Case &c, Random &r) {
 }
 
 void run(uint64_t number) {
-    Random r{(seed << 32) ^ number};
+    Random r = random_of(seed, number);
     Case c{number};
     Bytes in = input(r);
     Answer a = read(in.data(), in.size());

@@ -19,7 +19,7 @@ Read on_read(const uint8_t *bytes, size_t n) {
 
 // What is absent is zero, and so is what stands behind the rows of the kind.
 void on_cells(const tryphomel_message &m, unsigned refusal) {
-    static const size_t rows[] = {0, 4, 3, 15, 0, 2, 0, 2, 2, 2, 2, 17};
+    static const size_t rows[] = {0, 4, 3, 17, 0, 2, 0, 2, 2, 2, 2, 17};
     for (size_t i = 0; i < TRYPHOMEL_CELLS; i++) {
         const tryphomel_words &c = m.as.cells[i];
         expect(c.there ? c.there == 1 && refusal == 0 && i < rows[m.kind] : c.start == 0 && c.len == 0, "the cells of an accepted message's rows alone");

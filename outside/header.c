@@ -21,7 +21,7 @@ FITS(numbers, TRYPHOMEL_CELLS == 24 && TRYPHOMEL_NUMBERS == 3 * TRYPHOMEL_CELLS 
 FITS(service, CELL(service.machine, 0) && CELL(service.lane, 1) && CELL(service.version, 2) && CELL(service.features, 3));
 FITS(notification, CELL(notification.code, 0) && CELL(notification.severity, 1) && CELL(notification.description, 2));
 FITS(board, CELL(board.id, 0) && CELL(board.by, 1) && CELL(board.failed, 2) && CELL(board.product, 3) && CELL(board.flipped, 4) && CELL(board.top, 5) &&
-                CELL(board.bottom, 6) && CELL(board.order, 14));
+                CELL(board.bottom, 6) && CELL(board.order, 14) && CELL(board.route, 15) && CELL(board.batch, 16));
 FITS(measures, CELL(board.length, 7) && CELL(board.width, 8) && CELL(board.thickness, 9) && CELL(board.speed, 10) && CELL(board.above, 11) &&
                    CELL(board.below, 12) && CELL(board.weight, 13));
 FITS(ready, CELL(ready.failed, 0) && CELL(ready.forecast, 1));
@@ -33,6 +33,8 @@ FITS(forecast, CELL(forecast.forecast, 0) && CELL(forecast.until, 1) && CELL(for
 FITS(forecast_measures, CELL(forecast.length, 9) && CELL(forecast.width, 10) && CELL(forecast.thickness, 11) && CELL(forecast.speed, 12) &&
                             CELL(forecast.above, 13) && CELL(forecast.below, 14) && CELL(forecast.weight, 15));
 FITS(id, AT(id, 1 + TRYPHOMEL_NUMBERS) && sizeof(((tryphomel_message *)0)->as) == 576 && sizeof(((tryphomel_message *)0)->id) == TRYPHOMEL_ID_BYTES);
+
+FITS(version, TRYPHOMEL_VERSION == TRYPHOMEL_VERSION_MAJOR * 10000 + TRYPHOMEL_VERSION_MINOR * 100 + TRYPHOMEL_VERSION_PATCH);
 
 static int passed, failed;
 
@@ -101,6 +103,8 @@ static tryphomel_checked there_and_back(int line, int side, int state, tryphomel
     check_at(line, "checked", tryphomel_message_check(out, s.written, &c) == TRYPHOMEL_ACCEPTED && c.refusal == TRYPHOMEL_ACCEPTED);
     check_at(line, "places", c.start == 0 && c.end == s.written && c.place == 0);
     check_at(line, "kind", c.message.kind == m.kind);
+    sprintf(buffer, "<Hermes><%s", tryphomel_kind_name(m.kind));
+    check_at(line, "kind's name", strncmp(expected, buffer, strlen(buffer)) == 0 && strchr(" />", expected[strlen(buffer)]) != NULL);
     texts[0] = 0;
     return c;
 }
@@ -729,7 +733,65 @@ static void names(void) {
     }
 }
 
+/* Numbers that have no name, and the library's own version. */
+static void words(void) {
+    CHECK(tryphomel_version() == TRYPHOMEL_VERSION && tryphomel_fits());
+    CHECK(strcmp(tryphomel_kind_name(TRYPHOMEL_BOARD_FORECAST + 1), "no kind") == 0 && strcmp(tryphomel_kind_name(UINT64_MAX), "no kind") == 0);
+    CHECK(strcmp(tryphomel_state_name(TRYPHOMEL_FINISHED + 1), "no state") == 0 && strcmp(tryphomel_state_name(255), "no state") == 0);
+    CHECK(strcmp(tryphomel_refusal_name(TRYPHOMEL_PROTOCOL_ERROR + 1), "no refusal") == 0 && strcmp(tryphomel_order_name(TRYPHOMEL_ORDER_STOP_NOW + 1), "no order") == 0);
+}
+
+/* The named numbers of attributes are those that the library takes: the first and the last are right, one beyond is not. */
+static void ranges(void) {
+    static const struct {
+        const char *before, *after;
+        int low, high;
+    } rows[] = {
+        {"<Hermes><MachineReady FailedBoard='", "'/></Hermes>", TRYPHOMEL_READY_FOR_ANY_BOARD, TRYPHOMEL_READY_FOR_FAILED_BOARDS},
+        {"<Hermes><BoardForecast FlippedBoard='0' FailedBoard='", "'/></Hermes>", TRYPHOMEL_UNKNOWN_QUALITY, TRYPHOMEL_FAILED_BOARD},
+        {"<Hermes><BoardForecast FailedBoard='0' FlippedBoard='", "'/></Hermes>", TRYPHOMEL_SIDE_UP_UNKNOWN, TRYPHOMEL_BOTTOM_SIDE_UP},
+        {"<Hermes><StopTransport BoardId='0123abcd-4567-89ef-0123-456789abcdef' TransferState='", "'/></Hermes>", TRYPHOMEL_NOT_STARTED, TRYPHOMEL_COMPLETE},
+        {"<Hermes><Notification NotificationCode='1' Description='' Severity='", "'/></Hermes>", TRYPHOMEL_SEVERITY_FATAL_ERROR, TRYPHOMEL_SEVERITY_INFO},
+        {"<Hermes><CheckAlive Type='", "'/></Hermes>", TRYPHOMEL_PING, TRYPHOMEL_PONG},
+    };
+    tryphomel_checked c;
+    for (size_t i = 0; i < sizeof rows / sizeof rows[0]; i++)
+        for (int n = rows[i].low - 1; n <= rows[i].high + 1; n++) {
+            sprintf(buffer, "%s%d%s", rows[i].before, n, rows[i].after);
+            CHECK(tryphomel_message_check(buffer, strlen(buffer), &c) == (n < rows[i].low || n > rows[i].high ? TRYPHOMEL_BAD_VALUE : TRYPHOMEL_ACCEPTED));
+        }
+}
+
+/* A slice of no bytes may have a null pointer, in every call that takes one. */
+static void nothing_lent(void) {
+    static const char alive[] = "<Hermes><CheckAlive/></Hermes>", ping[] = "<Hermes><CheckAlive Type='1' Id='&lt;'/></Hermes>";
+    tryphomel_lane l = lane_in(TRYPHOMEL_UPSTREAM, TRYPHOMEL_OFFERED), before = l;
+    tryphomel_message m = tryphomel_blank(TRYPHOMEL_CHECK_ALIVE);
+    tryphomel_checked c;
+    tryphomel_received r;
+    tryphomel_sent s;
+    const uint8_t *text = ID;
+    uint64_t start = 9, place = 9, at = 9, count = 9;
+    CHECK(tryphomel_read(NULL, 0, &start, &place) == TRYPHOMEL_MORE_NEEDED && start == 0 && place == 0);
+    CHECK(tryphomel_message_check(NULL, 0, &c) == TRYPHOMEL_MORE_NEEDED && c.start == 0 && c.end == 0 && c.message.kind == TRYPHOMEL_UNKNOWN);
+    CHECK(tryphomel_lane_receive(&l, NULL, 0, NULL, 0, &r) == TRYPHOMEL_MORE_NEEDED && r.used == 0 && memcmp(&l, &before, sizeof l) == 0);
+    CHECK(tryphomel_lane_receive(&l, ping, strlen(ping), NULL, 0, &r) == TRYPHOMEL_NO_ROOM && r.written == 0 && memcmp(&l, &before, sizeof l) == 0);
+    CHECK(tryphomel_lane_receive(&l, alive, strlen(alive), NULL, 0, &r) == TRYPHOMEL_ACCEPTED && r.used == strlen(alive) && r.written == 0);
+    m.as.alive.id = tryphomel_part(0, 0);
+    CHECK(tryphomel_lane_send(&l, &m, NULL, 0, NULL, 0, &s) == TRYPHOMEL_NO_ROOM && s.written == 0);
+    CHECK(tryphomel_lane_send(&l, &m, NULL, 0, out, sizeof out, &s) == TRYPHOMEL_ACCEPTED && s.written == 36 && memcmp(out, "<Hermes><CheckAlive Id=\"\"/></Hermes>", 36) == 0);
+    m.as.alive.id = tryphomel_part(0, 1);
+    CHECK(tryphomel_lane_send(&l, &m, NULL, 0, out, sizeof out, &s) == TRYPHOMEL_BAD_VALUE);
+    CHECK(tryphomel_text(NULL, 0, 1, 0, 0, NULL, 0, &place, &at, &count) == TRYPHOMEL_ACCEPTED && place == TRYPHOMEL_IN_BYTES && at == 0 && count == 0);
+    CHECK(tryphomel_words_text(tryphomel_part(0, 0), NULL, 0, NULL, 0, &text, &count) == TRYPHOMEL_ACCEPTED && text != NULL && count == 0);
+    CHECK(tryphomel_words_text(tryphomel_part(0, 1), NULL, 0, NULL, 0, &text, &count) == TRYPHOMEL_BAD_VALUE && text == NULL);
+    CHECK(tryphomel_words_text(tryphomel_part(33, 4), ping, strlen(ping), NULL, 0, &text, &count) == TRYPHOMEL_NO_ROOM && text == NULL);
+}
+
 int main(void) {
+    words();
+    ranges();
+    nothing_lent();
     names();
     descriptions();
     boards();

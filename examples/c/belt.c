@@ -3,7 +3,7 @@
 
 #define IN(state) (1u << TRYPHOMEL_##state)
 #define OF(kind) (1u << TRYPHOMEL_##kind)
-#define TOLD(transfer) (1u << (transfer))
+#define TOLD(transfer) (1u << TRYPHOMEL_##transfer)
 #define EVERY_STATE 0x1ffu
 #define UP TRYPHOMEL_UPSTREAM
 #define DOWN TRYPHOMEL_DOWNSTREAM
@@ -19,14 +19,14 @@ const struct row BELT_ROWS[] = {
     {"up-6", UP, .states = IN(READY) | IN(BOTH), .event = RECEIVED, .kinds = OF(REVOKE_MACHINE_READY), .belt = STANDS},
     {"up-7", UP, .states = IN(BOTH), .event = RECEIVED, .kinds = OF(START_TRANSPORT), .order = TRYPHOMEL_ORDER_RUN, .belt = RUNS},
     {"up-8", UP, .states = IN(READY) | IN(BOTH), .event = RECEIVED, .kinds = OF(START_TRANSPORT), .order = TRYPHOMEL_ORDER_CANCEL, .belt = STANDS,
-     .sends = TRYPHOMEL_TRANSPORT_FINISHED, .transfer = NOT_STARTED},
+     .sends = TRYPHOMEL_TRANSPORT_FINISHED, .transfer = TRYPHOMEL_NOT_STARTED},
     {"up-9", UP, .states = IN(TRANSPORTING), .event = MOVES, .belt = AS_IT_IS},
     {"up-10", UP, .states = IN(TRANSPORTING), .event = TROUBLE, .belt = STANDS, .sends = TRYPHOMEL_TRANSPORT_FINISHED, .transfer = AS_SEEN},
-    {"up-11", UP, .states = IN(TRANSPORTING), .event = LEFT, .belt = AS_IT_IS, .sends = TRYPHOMEL_TRANSPORT_FINISHED, .transfer = COMPLETE},
+    {"up-11", UP, .states = IN(TRANSPORTING), .event = LEFT, .belt = AS_IT_IS, .sends = TRYPHOMEL_TRANSPORT_FINISHED, .transfer = TRYPHOMEL_COMPLETE},
     {"up-12", UP, .states = IN(TRANSPORTING), .event = RECEIVED, .kinds = OF(STOP_TRANSPORT), .transfers = TOLD(NOT_STARTED) | TOLD(INCOMPLETE),
      .belt = STANDS, .sends = TRYPHOMEL_TRANSPORT_FINISHED, .transfer = AS_SEEN},
     {"up-13", UP, .states = IN(TRANSPORTING), .event = RECEIVED, .kinds = OF(STOP_TRANSPORT), .transfers = TOLD(COMPLETE), .belt = STANDS,
-     .sends = TRYPHOMEL_TRANSPORT_FINISHED, .transfer = COMPLETE},
+     .sends = TRYPHOMEL_TRANSPORT_FINISHED, .transfer = TRYPHOMEL_COMPLETE},
     {"up-14", UP, .states = IN(FINISHED), .event = RECEIVED, .kinds = OF(STOP_TRANSPORT), .belt = STANDS},
     {"up-15", UP, .states = EVERY_STATE & ~(IN(OFFERED) | IN(BOTH) | IN(TRANSPORTING)), .event = TROUBLE, .belt = STANDS},
     {"up-16", UP, .states = IN(IDLE) | IN(READY), .event = FORESEES, .belt = STANDS, .sends = TRYPHOMEL_BOARD_FORECAST},
@@ -45,9 +45,9 @@ const struct row BELT_ROWS[] = {
      .transfers = TOLD(NOT_STARTED) | TOLD(INCOMPLETE), .belt = STANDS, .sends = TRYPHOMEL_STOP_TRANSPORT, .transfer = AS_SEEN},
     {"down-12", DOWN, .states = IN(TRANSPORTING), .event = RECEIVED, .kinds = OF(TRANSPORT_FINISHED), .transfers = TOLD(COMPLETE), .belt = AS_IT_IS},
     {"down-13", DOWN, .states = IN(TRANSPORTING) | IN(FINISHED), .event = ARRIVED, .belt = STANDS, .sends = TRYPHOMEL_STOP_TRANSPORT,
-     .transfer = COMPLETE},
+     .transfer = TRYPHOMEL_COMPLETE},
     {"down-14", DOWN, .states = IN(TRANSPORTING) | IN(FINISHED), .event = TROUBLE, .belt = STANDS, .sends = TRYPHOMEL_STOP_TRANSPORT,
-     .transfer = INCOMPLETE},
+     .transfer = TRYPHOMEL_INCOMPLETE},
     {"down-15", DOWN, .states = IN(STOPPED), .event = RECEIVED, .kinds = OF(TRANSPORT_FINISHED), .belt = STANDS},
     {"down-16", DOWN, .states = EVERY_STATE & ~(IN(READY) | IN(BOTH) | IN(TRANSPORTING) | IN(FINISHED)), .event = TROUBLE, .belt = STANDS},
     {"down-17", DOWN, .states = IN(IDLE) | IN(READY), .event = RECEIVED, .kinds = OF(BOARD_FORECAST), .belt = STANDS},

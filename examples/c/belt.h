@@ -27,8 +27,8 @@ enum event {
 
 enum belt { STANDS, RUNS, AS_IT_IS };
 
-/* The TransferState to be sent: 1, 2, 3, or what the machine sees of the board. */
-enum { NOT_STARTED = 1, INCOMPLETE = 2, COMPLETE = 3, AS_SEEN = 4 };
+/* Beside the TransferStates: what the machine sees of the board. */
+enum { AS_SEEN = TRYPHOMEL_COMPLETE + 1 };
 
 /* An event, and of an accepted message its kind, its belt order and its TransferState (0: it has none). */
 struct happening {

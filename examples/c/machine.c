@@ -10,22 +10,7 @@
 
 enum { HALVES_APART_MS = 20 };
 
-/* The NotificationCode of a forecast that cannot be met (001, 3.5). */
-enum { FORECAST_ERROR = 6 };
-
 static const char *const BOARDS[] = {"5d10d8c0-8c0a-4d5e-9f2b-0123456789ab", "0e9b7a52-31c4-4f6d-8a17-fedcba987654"};
-
-const char *kind_name(uint64_t kind) {
-    static const char *const names[] = {"unknown message",      "ServiceDescription", "Notification",       "BoardAvailable",
-                                        "RevokeBoardAvailable", "MachineReady",       "RevokeMachineReady", "StartTransport",
-                                        "StopTransport",        "TransportFinished",  "CheckAlive",         "BoardForecast"};
-    return kind <= TRYPHOMEL_BOARD_FORECAST ? names[kind] : "no kind";
-}
-
-const char *state_name(uint8_t state) {
-    static const char *const names[] = {"NotConnected", "DescribedDown", "Idle", "Offered", "Ready", "Both", "Transporting", "Stopped", "Finished"};
-    return state <= TRYPHOMEL_FINISHED ? names[state] : "no state";
-}
 
 const char *belt_name(enum belt belt) { return belt == RUNS ? "RUNS" : "stands"; }
 
@@ -36,8 +21,9 @@ static const char *event_name(enum event event) {
 }
 
 void machine_show(const struct machine *m, const char *verb, const char *what) {
-    static const char *const orders[] = {"", "order 1, run", "order 2, cancel", "order 3, stop now"};
-    printf("  %-10s %-8s %-27s %-18s %-13s belt %-7s ", m->name, verb, what, orders[m->order & 3], state_name(m->lane.state), belt_name(m->belt));
+    char order[32] = "";
+    if (m->order != TRYPHOMEL_ORDER_NONE) snprintf(order, sizeof order, "order %u, %s", m->order, tryphomel_order_name(m->order));
+    printf("  %-10s %-8s %-27s %-18s %-13s belt %-7s ", m->name, verb, what, order, tryphomel_state_name(m->lane.state), belt_name(m->belt));
     if (m->lane.forecast_length != 0) printf("keeps %.*s ", m->lane.forecast_length, (const char *)m->lane.forecast);
     printf("%s\n", m->row != NULL ? m->row->name : "");
     fflush(stdout);
@@ -46,9 +32,9 @@ void machine_show(const struct machine *m, const char *verb, const char *what) {
 static void show_message(const struct machine *m, const char *verb, uint64_t kind, uint64_t transfer) {
     char what[40];
     if (transfer != 0)
-        snprintf(what, sizeof what, "%s %u", kind_name(kind), (unsigned)transfer);
+        snprintf(what, sizeof what, "%s %u", tryphomel_kind_name(kind), (unsigned)transfer);
     else
-        snprintf(what, sizeof what, "%s", kind_name(kind));
+        snprintf(what, sizeof what, "%s", tryphomel_kind_name(kind));
     machine_show(m, verb, what);
 }
 
@@ -76,7 +62,7 @@ static void remember(struct machine *m) {
 void machine_start(struct machine *m, uint8_t side, int line) {
     m->name = side == TRYPHOMEL_UPSTREAM ? "upstream" : "downstream";
     m->line = line;
-    m->sees = NOT_STARTED;
+    m->sees = TRYPHOMEL_NOT_STARTED;
     if (side == TRYPHOMEL_UPSTREAM)
         tryphomel_lane_upstream(&m->lane);
     else
@@ -147,10 +133,10 @@ static void describe(struct letter *to, const struct machine *m) {
 }
 
 static void offer(struct letter *to, const struct machine *m) {
-    tryphomel_name_board(&to->message, (const uint8_t *)BOARDS[m->boards % 2]);
+    tryphomel_name_board(&to->message, BOARDS[m->boards % 2]);
     to->message.as.board.by = text(to, m->name);
-    to->message.as.board.failed = tryphomel_is(1);
-    to->message.as.board.flipped = tryphomel_is(0);
+    to->message.as.board.failed = tryphomel_is(TRYPHOMEL_GOOD_BOARD);
+    to->message.as.board.flipped = tryphomel_is(TRYPHOMEL_SIDE_UP_UNKNOWN);
     to->message.as.board.top = text(to, "R&D 42");
     to->message.as.board.length = tryphomel_is(160500000);
 }
@@ -160,20 +146,20 @@ static void foretell(struct letter *to, const struct machine *m) {
     next_forecast(m, id);
     to->message.as.forecast.forecast = text(to, id);
     to->message.as.forecast.until = tryphomel_is(30000000);
-    to->message.as.forecast.failed = tryphomel_is(1);
-    to->message.as.forecast.flipped = tryphomel_is(0);
+    to->message.as.forecast.failed = tryphomel_is(TRYPHOMEL_GOOD_BOARD);
+    to->message.as.forecast.flipped = tryphomel_is(TRYPHOMEL_SIDE_UP_UNKNOWN);
     to->message.as.forecast.width = tryphomel_is(80000000);
 }
 
 /* A forecast that the lane keeps is answered, but for one that we have declined. */
 static void ready(struct letter *to, const struct machine *m) {
-    to->message.as.ready.failed = tryphomel_is(0);
+    to->message.as.ready.failed = tryphomel_is(TRYPHOMEL_READY_FOR_ANY_BOARD);
     if (m->lane.forecast_length != 0 && !m->declined) to->message.as.ready.forecast = bytes_of(to, m->lane.forecast, m->lane.forecast_length);
 }
 
 static void decline(struct letter *to) {
-    to->message.as.notification.code = tryphomel_is(FORECAST_ERROR);
-    to->message.as.notification.severity = tryphomel_is(2);
+    to->message.as.notification.code = tryphomel_is(TRYPHOMEL_CODE_BOARD_FORECAST_ERROR);
+    to->message.as.notification.severity = tryphomel_is(TRYPHOMEL_SEVERITY_ERROR);
     to->message.as.notification.description = text(to, "the forecast board is too wide");
 }
 
@@ -225,11 +211,11 @@ static void answer(struct machine *m) {
 
 /* What our sensors make of an event. */
 static void sense(struct machine *m, enum event event) {
-    if (event == BOARD || event == FETCHES) m->sees = NOT_STARTED;
-    if (event == MOVES) m->sees = INCOMPLETE;
+    if (event == BOARD || event == FETCHES) m->sees = TRYPHOMEL_NOT_STARTED;
+    if (event == MOVES) m->sees = TRYPHOMEL_INCOMPLETE;
     if (event == DECLINES) m->declined = 1;
     if (event == LEFT || event == ARRIVED) {
-        m->sees = COMPLETE;
+        m->sees = TRYPHOMEL_COMPLETE;
         m->boards++;
     }
 }
@@ -246,11 +232,13 @@ void machine_own(struct machine *m, enum event event) {
 
 void machine_send(struct machine *m, uint64_t kind) {
     m->row = NULL;
-    send_message(m, kind, kind == TRYPHOMEL_STOP_TRANSPORT || kind == TRYPHOMEL_TRANSPORT_FINISHED ? COMPLETE : 0);
+    send_message(m, kind, kind == TRYPHOMEL_STOP_TRANSPORT || kind == TRYPHOMEL_TRANSPORT_FINISHED ? TRYPHOMEL_COMPLETE : 0);
 }
 
+static int is_blank(uint8_t b) { return b == ' ' || b == '\t' || b == '\r' || b == '\n'; }
+
 void machine_drop(struct machine *m, size_t count) {
-    while (count < m->held && memchr(" \t\r\n", m->in[count], 4) != NULL) count++;
+    while (count < m->held && is_blank(m->in[count])) count++;
     m->held -= count;
     memmove(m->in, m->in + count, m->held);
 }
@@ -290,7 +278,7 @@ struct happening machine_happened(const tryphomel_received *r) {
 /* A refusal that ends the connection: its Notification is sent, and the line closed. */
 static void refuse(struct machine *m, const uint8_t *out, const tryphomel_received *r) {
     char what[40];
-    snprintf(what, sizeof what, "with %u", r->refusal);
+    snprintf(what, sizeof what, "with %u, %s", r->refusal, tryphomel_refusal_name(r->refusal));
     machine_show(m, "refuses", what);
     if (r->refusal == TRYPHOMEL_NO_ROOM) return;
     machine_put(m, out, r->written);
@@ -332,7 +320,7 @@ static void note_forecast(struct machine *m, const tryphomel_message *message) {
             break;
         case TRYPHOMEL_NOTIFICATION:
             show_text(m, "is told:", message->as.notification.description, "");
-            if (message->as.notification.code.value == FORECAST_ERROR) m->foretold[0] = 0;
+            if (message->as.notification.code.value == TRYPHOMEL_CODE_BOARD_FORECAST_ERROR) m->foretold[0] = 0;
             break;
     }
 }
@@ -341,10 +329,10 @@ static void accept_message(struct machine *m, const uint8_t *out, const tryphome
     show_message(m, "receives", now->kind, now->transfer);
     if (now->kind == TRYPHOMEL_BOARD_AVAILABLE) show_board(m, &r->message);
     note_forecast(m, &r->message);
-    if (r->written > 0) machine_show(m, "answers", kind_name(TRYPHOMEL_CHECK_ALIVE));
+    if (r->written > 0) machine_show(m, "answers", tryphomel_kind_name(TRYPHOMEL_CHECK_ALIVE));
     put_or_lose(m, out, r->written);
     machine_drop(m, r->used);
-    if (now->kind == TRYPHOMEL_STOP_TRANSPORT && now->transfer == COMPLETE && m->sees != COMPLETE) sense(m, LEFT);
+    if (now->kind == TRYPHOMEL_STOP_TRANSPORT && now->transfer == TRYPHOMEL_COMPLETE && m->sees != TRYPHOMEL_COMPLETE) sense(m, LEFT);
     answer(m);
 }
 

@@ -11,7 +11,7 @@ struct machine {
     const char *name;
     tryphomel_lane lane;
     enum belt belt;
-    uint8_t sees;                                /* where the board is, by our sensors: 1 not started, 2 between, 3 complete */
+    uint8_t sees;                                /* where the board is, by our sensors: a TransferState */
     unsigned boards;                             /* boards handed over completely */
     uint8_t board[TRYPHOMEL_ID_BYTES];           /* the last board that the lane named */
     unsigned forecasts;                          /* forecasts that we have sent */
@@ -57,8 +57,6 @@ void machine_drop(struct machine *m, size_t count);
 /* Prints a line: who, what, the lane's state, the belt. */
 void machine_show(const struct machine *m, const char *verb, const char *what);
 
-const char *kind_name(uint64_t kind);
-const char *state_name(uint8_t state);
 const char *belt_name(enum belt belt);
 
 #endif

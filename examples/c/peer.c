@@ -29,7 +29,7 @@ static int wrong(const struct machine *m, const char *why) {
 
 static int wrong_kind(const struct machine *m, uint64_t kind) {
     char why[80];
-    snprintf(why, sizeof why, "expected is an accepted %s", kind_name(kind));
+    snprintf(why, sizeof why, "expected is an accepted %s", tryphomel_kind_name(kind));
     return wrong(m, why);
 }
 
@@ -81,8 +81,8 @@ static int as_expected(const struct machine *m, const struct step *step, uint8_t
     if (m->belt != step->belt) return wrong(m, step->belt == STANDS ? "the belt runs and must stand" : "the belt stands and must run");
     if (step->forecast != NULL && !is_open(m, step->forecast)) return wrong(m, "another forecast is open than expected");
     if (m->refusal == step->refusal && order == step->order && m->lane.state == step->state) return 1;
-    snprintf(why, sizeof why, "refusal %u, order %u, %s; expected are refusal %u, order %u, %s", m->refusal, order, state_name(m->lane.state),
-             step->refusal, step->order, state_name(step->state));
+    snprintf(why, sizeof why, "refusal %u, order %u, %s; expected are refusal %u, order %u, %s", m->refusal, order, tryphomel_state_name(m->lane.state),
+             step->refusal, step->order, tryphomel_state_name(step->state));
     return wrong(m, why);
 }
 
@@ -186,7 +186,7 @@ static int look(struct machine *m, tryphomel_checked *c) {
     aside(m);
     machine_drop(m, 0);
     if (tryphomel_message_check(m->in, m->held, c) != TRYPHOMEL_ACCEPTED) return 0;
-    machine_show(m, "sees", kind_name(c->message.kind));
+    machine_show(m, "sees", tryphomel_kind_name(c->message.kind));
     machine_drop(m, c->end);
     return 1;
 }

@@ -50,7 +50,7 @@ static int count_rows(uint8_t side, uint8_t state, const struct happening *now) 
 static int must_have(enum event event) { return event == TROUBLE || event == REFUSED || event == NO_ROOM || event == NOT_SENT || event == LOST; }
 
 static int bad(uint8_t side, uint8_t state, const char *what, int n) {
-    printf("%d rows: side %u, %s, %s\n", n, side, state_name(state), what);
+    printf("%d rows: side %u, %s, %s\n", n, side, tryphomel_state_name(state), what);
     return 1;
 }
 
@@ -72,7 +72,7 @@ static int bad_in(uint8_t side, uint8_t state) {
 int rows_complete(void) {
     int wrong = 0;
     for (size_t i = 0; i < BELT_ROW_COUNT; i++) printf("%s\n", BELT_ROWS[i].name);
-    for (uint8_t side = TRYPHOMEL_UPSTREAM; side <= TRYPHOMEL_DOWNSTREAM; side++)
-        for (uint8_t state = TRYPHOMEL_NOT_CONNECTED; state <= TRYPHOMEL_FINISHED; state++) wrong += bad_in(side, state);
+    for (int side = TRYPHOMEL_UPSTREAM; side <= TRYPHOMEL_DOWNSTREAM; side++)
+        for (int state = TRYPHOMEL_NOT_CONNECTED; state <= TRYPHOMEL_FINISHED; state++) wrong += bad_in((uint8_t)side, (uint8_t)state);
     return wrong == 0;
 }

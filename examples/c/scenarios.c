@@ -24,7 +24,7 @@
 #define TAKES_OPEN(kind_, state_, belt_, forecast_) \
     { .does = DO_TAKES, .what = TRYPHOMEL_##kind_, .state = TRYPHOMEL_##state_, .belt = belt_, .forecast = forecast_ }
 #define ENDS(kind_, transfer_, state_, belt_) \
-    { .does = DO_TAKES, .what = TRYPHOMEL_##kind_, .transfer = transfer_, .state = TRYPHOMEL_##state_, .belt = belt_ }
+    { .does = DO_TAKES, .what = TRYPHOMEL_##kind_, .transfer = TRYPHOMEL_##transfer_, .state = TRYPHOMEL_##state_, .belt = belt_ }
 #define REFUSES(refusal_, order_) \
     { .does = DO_REFUSES, .refusal = TRYPHOMEL_##refusal_, .order = TRYPHOMEL_ORDER_##order_, .state = TRYPHOMEL_NOT_CONNECTED, .belt = STANDS }
 #define LACKS_ROOM(state_) \
@@ -178,15 +178,15 @@ STEPS(forecast_late_down, DOWN_MEETS, DOWN_RUNS, ENDS(TRANSPORT_FINISHED, COMPLE
 STEPS(late_up, UP_MEETS, UP_BOTH, OWN(TROUBLE, READY, STANDS), TAKES(START_TRANSPORT, CANCEL, FINISHED, STANDS),
       ENDS(STOP_TRANSPORT, NOT_STARTED, IDLE, STANDS));
 STEPS(late_down, DOWN_MEETS, DOWN_BOTH, TAKES(REVOKE_BOARD_AVAILABLE, NONE, READY, STANDS), PUTS(START("@")),
-      SEES(TRANSPORT_FINISHED, NOT_STARTED, "@"), PUTS(STOP(1, "@")));
+      SEES(TRANSPORT_FINISHED, TRYPHOMEL_NOT_STARTED, "@"), PUTS(STOP(1, "@")));
 STEPS(unasked_up, UP_MEETS, OWN(BOARD, OFFERED, STANDS), REFUSES(PROTOCOL_ERROR, NONE));
 STEPS(unasked_down, DOWN_MEETS, TAKES(BOARD_AVAILABLE, NONE, OFFERED, STANDS), PUTS(START("@")), IS_ENDED);
 
 /* A start for another board, from quite another to nearly the same. */
 STEPS(foreign_up, UP_MEETS, UP_BOTH, TAKES_ID(START_TRANSPORT, CANCEL, FINISHED, STANDS, OTHER), ENDS(STOP_TRANSPORT, NOT_STARTED, IDLE, STANDS));
-STEPS(foreign_down, DOWN_MEETS, DOWN_BOTH, PUTS(START(OTHER)), SEES(TRANSPORT_FINISHED, NOT_STARTED, OTHER), PUTS(STOP(1, OTHER)));
+STEPS(foreign_down, DOWN_MEETS, DOWN_BOTH, PUTS(START(OTHER)), SEES(TRANSPORT_FINISHED, TRYPHOMEL_NOT_STARTED, OTHER), PUTS(STOP(1, OTHER)));
 STEPS(near_up, UP_MEETS, UP_BOTH, TAKES_ID(START_TRANSPORT, CANCEL, FINISHED, STANDS, "~"), ENDS(STOP_TRANSPORT, NOT_STARTED, IDLE, STANDS));
-STEPS(near_down, DOWN_MEETS, DOWN_BOTH, PUTS(START("~")), SEES(TRANSPORT_FINISHED, NOT_STARTED, "~"), PUTS(STOP(1, "~")));
+STEPS(near_down, DOWN_MEETS, DOWN_BOTH, PUTS(START("~")), SEES(TRANSPORT_FINISHED, TRYPHOMEL_NOT_STARTED, "~"), PUTS(STOP(1, "~")));
 STEPS(capital_up, UP_MEETS, UP_BOTH, REFUSES(BAD_VALUE, NONE));
 STEPS(capital_down, DOWN_MEETS, DOWN_BOTH, PUTS(START("^")), IS_ENDED);
 
@@ -206,7 +206,7 @@ STEPS(closing_tag_up, UP_MEETS,
                                                                           1) "/></Hermes></Trace></BoardAvailable></Hermes >\r\n"
                                                                              "<Hermes><RevokeBoardAvailable/></Hermes>" OFFER(OTHER,
                                                                                                                               1) "/></Hermes>"),
-      SEES(MACHINE_READY, 0, NULL), SEES(START_TRANSPORT, 0, OTHER), PUTS(FINISH(3, OTHER)), SEES(STOP_TRANSPORT, COMPLETE, OTHER));
+      SEES(MACHINE_READY, 0, NULL), SEES(START_TRANSPORT, 0, OTHER), PUTS(FINISH(3, OTHER)), SEES(STOP_TRANSPORT, TRYPHOMEL_COMPLETE, OTHER));
 STEPS(closing_tag_down, DOWN_MEETS, TAKES_ID(BOARD_AVAILABLE, NONE, OFFERED, STANDS, FIRST), TAKES(REVOKE_BOARD_AVAILABLE, NONE, IDLE, STANDS),
       OWN(CAN_TAKE, READY, STANDS), TAKES_ID(BOARD_AVAILABLE, NONE, BOTH, STANDS, OTHER), FETCH, ENDS(TRANSPORT_FINISHED, COMPLETE, FINISHED, RUNS),
       OWN(ARRIVED, IDLE, STANDS));

@@ -4,3 +4,4 @@ pub mod Lanes
 pub mod Checking
 pub mod Receiving
 pub mod Sending
+pub mod Versions

@@ -7,6 +7,7 @@ mod reading;
 mod receiving;
 mod routing;
 mod sending;
+mod versions;
 
 pub use asking::tryphomel_text;
 pub use checking::tryphomel_check;
@@ -17,3 +18,4 @@ pub use reading::tryphomel_read;
 pub use receiving::tryphomel_receive;
 pub use routing::tryphomel_route_class;
 pub use sending::tryphomel_send;
+pub use versions::tryphomel_version;
