@@ -9,3 +9,4 @@ pub mod TableLaws
 pub mod AttributeLaws
 pub mod PlaceLaws
 pub mod HeadLaws
+pub mod MarkLaws

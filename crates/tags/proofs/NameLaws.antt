@@ -2,14 +2,14 @@
 use mathlib.Core.Path.{_≡_, refl, sym, subst, _∙_}
 use mathlib.Core.List.{List, [], _∷_, _++_, append-assoc, append-nil}
 use mathlib.Core.Logic.{inl, inr}
-use mathlib.Core.Bool.{Bool, true, false}
-use Prim.Native.Nat.{ℕ, suc, _+_, _-_, _≤_, _<_}
+use mathlib.Core.Bool.{Bool, true, false, _&&_, _||_}
+use Prim.Native.Nat.{ℕ, zero, suc, _+_, _-_, _≤_, _<_}
 use native.Mathlib.Omega.{arith}
 use native.Mathlib.Numerals.{add-one}
 use lib.ListN.{length, length-append, take, drop, getD, drop-of-length-le}
 use lib.Seq.{drop-cons, take-at}
-use lib.Dec.{eqb, leb}
-use borrow.Author.Tests.{leb-true, leb-false, lt-leb}
+use lib.Dec.{eqb, leb, ltb}
+use borrow.Author.Tests.{leb-true, leb-false, le-leb, lt-leb}
 use Rattle.model.specs.Tests.{and-left, and-right, and-both, and-false, every-left, every-append}
 use Rattle.model.specs.Names.{glue-not-name, live, new, of-live, live-shut}
 use Rattle.model.specs.Attributes.{State, equalsP, attrP}
@@ -21,7 +21,7 @@ use Rattle.exact.specs.Limit.{split}
 use Rattle.grammar.specs.Bytes.{Bytes, within, digit, every, nonEmpty, among, fits}
 use Rattle.grammar.specs.Glue.{isGlue}
 use Rattle.grammar.specs.Name.{letter, nameStart, nameByte, shaped}
-use Rattle.tags.specs.Names.{Part, Run, Fresh}
+use Rattle.tags.specs.Names.{Part, Run, Fresh, Named}
 use Rattle.scan.specs.declared.Step.{Step}
 use Rattle.scan.specs.declared.Step.the-variants.{Done, Open, Bad}
 
@@ -54,6 +54,14 @@ part-more s at i w h k f =
       shape = shape-grow (w .name) (getD s i 0) (omega arith) (w .shape) f;
       split = e;
     }
+
+pub part-many : (s : Bytes) (at n i : ℕ) → Part s at i → i + n ≤ length s → i + n ≤ at + 63 → Named s i n → Part s at (i + n)
+part-many s at zero i w h k p = subst (λ (x : ℕ). Part s at x) (omega arith) w
+part-many s at (suc n) i w h k p =
+    let z : i + 0 ≡ i = omega arith in
+    let y = w .from in
+    let f : nameByte (getD s i 0) ≡ true = rw z at (p 0 (omega arith)) in
+    subst (λ (x : ℕ). Part s at x) (omega arith) (part-many s at n (i + 1) (part-more s at i w (omega arith) (omega arith) f) (omega arith) (omega arith) (λ j l. let e : i + suc j ≡ i + 1 + j = omega arith in rw e at (p (suc j) (omega arith))))
 
 -- while there is room, the names seen do not matter
 pub run-on : {A : Type 0} (earlier : List Bytes) (q : Bytes → Reader A) (n m x : Bytes) → shaped (n ++ m) ≡ true → length (n ++ m) ≤ 63 → tokenP (live earlier) (new earlier) q n (m ++ x) ≡ tokenP (live earlier) (new earlier) q (n ++ m) x
@@ -189,3 +197,24 @@ module _ (earlier : List Bytes) (s : Bytes) (at i : ℕ) (w : Run s at i) where
 
           pub fresh-last : nameByte (getD s (i + 1) 0) ≡ false → Fresh s earlier at (Done (i + 1))
           fresh-last u = let x = w .part .from in record { says = record { far = omega arith; upto = omega arith; reads = λ may st g e. last-at may st g e } }
+
+pub small-test : (b : ℕ) → ltb 96 b && ltb b 123 ≡ true → nameByte b ≡ true
+unfolding nameByte nameStart letter within
+small-test b k =
+    let x = leb-true 97 b (and-left (ltb 96 b) (ltb b 123) k) in
+    let y = leb-true (suc b) 123 (and-right (ltb 96 b) (ltb b 123) k) in
+    rw (le-leb 65 b (omega arith), lt-leb b 90 (omega arith), le-leb 97 b x, le-leb b 122 (omega arith))
+
+large-test : (b : ℕ) → ltb 64 b && ltb b 91 ≡ true → nameByte b ≡ true
+unfolding nameByte nameStart letter within
+large-test b k =
+    let x = leb-true 65 b (and-left (ltb 64 b) (ltb b 91) k) in
+    let y = leb-true (suc b) 91 (and-right (ltb 64 b) (ltb b 91) k) in
+    rw (le-leb 65 b x, le-leb b 90 (omega arith))
+
+pub letter-test : (b : ℕ) → (ltb 64 b && ltb b 91) || (ltb 96 b && ltb b 123) ≡ true → nameByte b ≡ true
+letter-test b h = go (ltb 64 b && ltb b 91) refl h
+  where
+    go : (z : Bool) → ltb 64 b && ltb b 91 ≡ z → z || (ltb 96 b && ltb b 123) ≡ true → nameByte b ≡ true
+    go true e k = large-test b e
+    go false e k = small-test b k

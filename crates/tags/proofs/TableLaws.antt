@@ -1,21 +1,21 @@
 -- Names compared, and the table of names.
-use mathlib.Core.Path.{_≡_, refl, sym, ap, _∙_}
-use mathlib.Core.List.{List, _∷_}
+use mathlib.Core.Path.{_≡_, refl, sym, ap, subst, _∙_}
+use mathlib.Core.List.{List, [], _∷_}
 use mathlib.Core.Bool.{Bool, true, false, _&&_}
-use Prim.Native.Nat.{ℕ, zero, suc, _+_, _-_, _*_, _≤_, _<_}
+use Prim.Native.Nat.{ℕ, zero, suc, _+_, _-_, _*_, _/_, _%_, _≤_, _<_}
 use native.Mathlib.Omega.{arith}
 use native.Mathlib.Numerals.{add-one}
 use lib.ListN.{length, take, drop, getD, length-take, length-drop, set, length-set}
 use native.Mathlib.Nat.{add-zero, sub-zero}
-use lib.Seq.{drop-cons, getD-set-same, getD-set-other}
+use lib.Seq.{drop-cons, getD-set-same, getD-set-other, getD-take, getD-drop}
 use lib.Dec.{eqb, leb}
-use borrow.Author.Tests.{leb-true, leb-false, eq-eqb, ne-eqb}
+use borrow.Author.Tests.{leb-true, leb-false, eq-eqb, ne-eqb, eqb-true, eqb-false}
 use Rattle.model.specs.Tests.{or-right, same-true}
 use Rattle.exact.specs.Chain.{clash}
 use Rattle.exact.specs.Limit.{long}
 use Rattle.grammar.specs.Bytes.{Bytes, same, among, fits}
 use Rattle.tags.specs.Places.{stored}
-use Rattle.tags.specs.Names.{namesOf, Table}
+use Rattle.tags.specs.Names.{namesOf, Table, Agree, markOf, AllMarked, Marked}
 
 part-long : (s : Bytes) (a n : ℕ) → a + n ≤ length s → length (take n (drop a s)) ≡ n
 part-long s a n h = rw (length-take, length-drop) (omega arith)
@@ -56,6 +56,22 @@ module _ (s : Bytes) (a n b m k : ℕ) (is-m : n ≡ m) (w : Alike s a n b k) wh
         let y : a + (k + 1) ≡ suc (a + k) = omega arith in
         let z : b + (k + 1) ≡ suc (b + k) = omega arith in
         record { upto = omega arith; rest = rw (x, y, z) (cut ∙ rw (eq-eqb (getD s (a + k) 0) (getD s (b + k) 0) e)) }
+
+pub agree-more : (s : Bytes) (a b k : ℕ) → Agree s a b k → Agree s (a + k) (b + k) 8 → Agree s a b (k + 8)
+agree-more s a b k p q j l = go (leb (suc j) k) refl
+  where
+    go : (z : Bool) → leb (suc j) k ≡ z → getD s (a + j) 0 ≡ getD s (b + j) 0
+    go true e = p j (leb-true (suc j) k e)
+    go false e =
+        let m = leb-false (suc j) k e in
+        let x : a + k + (j - k) ≡ a + j = omega arith in
+        let y : b + k + (j - k) ≡ b + j = omega arith in
+        rw (x, y) at (q (j - k) (omega arith))
+
+pub alike-many : (s : Bytes) (a n b : ℕ) → a + n ≤ length s → b + n ≤ length s → (k : ℕ) → k ≤ n → Agree s a b k → Alike s a n b k
+alike-many s a n b h j zero i p = alike-start s a n b
+alike-many s a n b h j (suc k) i p =
+    subst (λ (x : ℕ). Alike s a n b x) (omega arith) (alike-next s a n b n k refl (alike-many s a n b h j k (omega arith) (λ m l. p m (omega arith))) h j (omega arith) (p k (omega arith)))
 
 -- a name is not among the first k
 pub record Unseen (s : Bytes) (t : List ℕ) (n : ℕ) (x : Bytes) (k : ℕ) : Type 0 where
@@ -100,13 +116,13 @@ module _ (s : Bytes) (t : List ℕ) (n a b c d : ℕ) (long : 4 * n + 3 < length
   abbrev t₃ : List ℕ
   t₃ = set t₂ (4 * n + 2) c
 
-  row-name : getD (stored t n a b c d) (4 * n) 0 ≡ a
+  pub row-name : getD (stored t n a b c d) (4 * n) 0 ≡ a
   unfolding stored
   row-name =
       set-before t₃ (4 * n + 3) d (4 * n) (λ e. omega arith) ∙ set-before t₂ (4 * n + 2) c (4 * n) (λ e. omega arith)
       ∙ set-before t₁ (4 * n + 1) b (4 * n) (λ e. omega arith) ∙ getD-set-same t (4 * n) a 0 (omega arith)
 
-  row-past : getD (stored t n a b c d) (4 * n + 1) 0 ≡ b
+  pub row-past : getD (stored t n a b c d) (4 * n + 1) 0 ≡ b
   unfolding stored
   row-past =
       set-before t₃ (4 * n + 3) d (4 * n + 1) (λ e. omega arith) ∙ set-before t₂ (4 * n + 2) c (4 * n + 1) (λ e. omega arith)
@@ -138,3 +154,38 @@ module _ (s : Bytes) (t : List ℕ) (n a b c d : ℕ) (long : 4 * n + 3 < length
 
       fits : (k : ℕ) → k < n + 1 → (getD (stored t n a b c d) (4 * k) 0 ≤ getD (stored t n a b c d) (4 * k + 1) 0) × (getD (stored t n a b c d) (4 * k + 1) 0 ≤ length s)
       fits k i = at k (leb n k) refl i
+
+-- marks
+pub marked-none : (f : List ℕ) → Marked f []
+marked-none f = record { all = tt }
+
+pub unmarked : (f : List ℕ) (l : List Bytes) (x : Bytes) → Marked f l → getD f (markOf x) 0 ≡ 0 → false ≡ among l x
+unmarked f [] x w h = refl
+unmarked f (y ∷ l) x w h = go (same y x) refl (unmarked f l x (record { all = w .all .1 }) h)
+  where
+    go : (z : Bool) → same y x ≡ z → false ≡ among l x → false ≡ among (y ∷ l) x
+    go true e r = absurd (let q = same-true y x e in let u : getD f (markOf x) 0 ≡ 1 = rw q (w .all .0) in omega arith)
+    go false e r = rw e r
+
+set-mark : (f : List ℕ) (l : List Bytes) (h : ℕ) → h < length f → AllMarked f l → AllMarked (set f h 1) l
+set-mark f [] h i w = tt
+set-mark f (y ∷ l) h i w = (go (eqb (markOf y) h) refl, set-mark f l h i (w .1))
+  where
+    go : (z : Bool) → eqb (markOf y) h ≡ z → getD (set f h 1) (markOf y) 0 ≡ 1
+    go true e = rw (eqb-true (markOf y) h e) (getD-set-same f h 1 0 i)
+    go false e = getD-set-other f h (markOf y) 1 0 (eqb-false (markOf y) h e) ∙ w .0
+
+pub marked-more : (f : List ℕ) (l : List Bytes) (x : Bytes) → markOf x < length f → Marked f l → Marked (set f (markOf x) 1) (x ∷ l)
+marked-more f l x i w = record { all = (getD-set-same f (markOf x) 1 0 i, set-mark f l (markOf x) i (w .all)) }
+
+pub mark-is : (s : Bytes) (from to : ℕ) → from < to → to ≤ length s
+    → (((to - from) % 64 + 5 * getD s (to - 1) 0 + 3 * getD s (from + (to - from) / 2) 0 + 4 * getD s (from + (to - from - 2)) 0) % 64 ≡ markOf (take (to - from) (drop from s)))
+unfolding markOf
+mark-is s from to h k =
+    let a : length (take (to - from) (drop from s)) ≡ to - from = part-long s from (to - from) (omega arith) in
+    let b : from + (to - from - 1) ≡ to - 1 = omega arith in
+    rw (a, getD-take (to - from) (drop from s) (to - from - 1) 0 (omega arith), getD-take (to - from) (drop from s) ((to - from) / 2) 0 (omega arith), getD-take (to - from) (drop from s) (to - from - 2) 0 (omega arith), getD-drop from s (to - from - 1) 0, getD-drop from s ((to - from) / 2) 0, getD-drop from s (to - from - 2) 0, b)
+
+pub mark-small : (x : Bytes) → markOf x < 64
+unfolding markOf
+mark-small x = omega arith

@@ -2,7 +2,7 @@
 use mathlib.Core.Path.{_≡_}
 use mathlib.Core.List.{List, [], _∷_, _++_}
 use mathlib.Core.Bool.{Bool, true}
-use Prim.Native.Nat.{ℕ, zero, suc, _+_, _-_, _*_, _≤_, _<_}
+use Prim.Native.Nat.{ℕ, zero, suc, _+_, _-_, _*_, _/_, _%_, _≤_, _<_}
 use lib.ListN.{length, take, drop, getD}
 use Rattle.model.specs.Attributes.{State, equalsP, attrP}
 use Rattle.exact.specs.Exact.{more, bad}
@@ -57,3 +57,23 @@ FreshCase s earlier at (Bad p) = FreshBad s earlier at p
 
 pub record Fresh (s : Bytes) (earlier : List Bytes) (at : ℕ) (r : Step) : Type 0 where
   pub says : FreshCase s earlier at r
+
+-- k bytes at a and at b are the same
+abbrev pub Agree : Bytes → ℕ → ℕ → ℕ → Type 0
+Agree s a b n = (k : ℕ) → k < n → getD s (a + k) 0 ≡ getD s (b + k) 0
+
+-- n bytes from i on may stand in a name
+abbrev pub Named : Bytes → ℕ → ℕ → Type 0
+Named s i n = (k : ℕ) → k < n → nameByte (getD s (i + k) 0) ≡ true
+
+-- a number below 64 that goes with a name: names with different ones are different
+unfoldable pub markOf : Bytes → ℕ
+markOf n = (length n % 64 + 5 * getD n (length n - 1) 0 + 3 * getD n (length n / 2) 0 + 4 * getD n (length n - 2) 0) % 64
+
+-- the marks of all these names are set
+abbrev pub AllMarked : List ℕ → List Bytes → Type 0
+AllMarked f [] = Unit {0}
+AllMarked f (x ∷ l) = (getD f (markOf x) 0 ≡ 1) × AllMarked f l
+
+pub record Marked (f : List ℕ) (names : List Bytes) : Type 0 where
+  pub all : AllMarked f names

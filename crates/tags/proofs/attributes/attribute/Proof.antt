@@ -43,10 +43,10 @@ sub-put : tie.Need-sub-put
 sub-put c = let g = known (c .before .before .r3 .given .1) (c .before .before .before .before .value .ensures) in omega (arith, g .says .1)
 
 put-requires : tie.Need-put-requires
-put-requires c κs = c .before .before .before .before .before .before .before .before .before .before .before .before .before .before .before .before .pre .room
+put-requires c κs = c .before .before .before .before .before .before .before .before .before .before .before .before .before .before .before .before .pre .0 .room
 
 returns-4 : tie.Need-returns-4
-returns-4 c = attribute-read _ _ _ _ _ (known-fresh (c .before .before .before .before .before .before .before .before .before .before .before .before .r .given .1) (c .before .before .before .before .before .before .before .before .before .before .before .before .before .before .fresh .ensures)) _ (c .before .before .before .before .before .before .before .before .before .before .opened .ensures .at-done _ (c .before .before .before .before .before .before .before .before .r2 .given .1)) _ (known (c .before .before .before .r3 .given .1) (c .before .before .before .before .before .value .ensures)) (omega (arith, c .before .before .before .before .before .before .before .before .before .before .before .before .before .before .before .before .before .pre .table .long, c .before .before .before .before .before .before .before .before .before .before .before .before .before .before .before .before .before .pre .room)) _ (c .put .ensures)
+returns-4 c = attribute-read _ _ _ _ _ (known-fresh (c .before .before .before .before .before .before .before .before .before .before .before .before .r .given .1) (c .before .before .before .before .before .before .before .before .before .before .before .before .before .before .fresh .ensures)) _ (c .before .before .before .before .before .before .before .before .before .before .opened .ensures .at-done _ (c .before .before .before .before .before .before .before .before .r2 .given .1)) _ (known (c .before .before .before .r3 .given .1) (c .before .before .before .before .before .value .ensures)) (omega (arith, c .before .before .before .before .before .before .before .before .before .before .before .before .before .before .before .before .before .pre .0 .table .long, c .before .before .before .before .before .before .before .before .before .before .before .before .before .before .before .before .before .pre .0 .room)) _ (c .put .ensures)
 
 pub attribute-spec : {M : Type 1} → statement M
 attribute-spec =
