@@ -19,32 +19,32 @@ use Rattle.reader.proofs.elements.start_tag.Reads as start-tag-reads
 use Rattle.reader.proofs.elements.+content+element.{statement}
 use Rattle.reader.proofs.elements.+content+element.Tie.{close}
 
-abbrev μ-content : Measures 2 content-kinds.ps ℕ
+abbrev μ-content : Measures 1 content-kinds.ps ℕ
 μ-content κs a = length (a .0 .now) - a .1 .0
 
-abbrev μ-element : Measures 2 element-kinds.ps ℕ
+abbrev μ-element : Measures 1 element-kinds.ps ℕ
 μ-element κs a = length (a .0 .now) - a .1 .0
 
-abbrev content-at : ℕ → In 2 content-kinds.ps
-content-at t = and 2 content-kinds.ps (is 2 content-kinds.ps μ-content t) content.Pre
+abbrev content-at : ℕ → In 1 content-kinds.ps
+content-at t = and 1 content-kinds.ps (is 1 content-kinds.ps μ-content t) content.Pre
 
-abbrev content-below : ℕ → In 2 content-kinds.ps
-content-below t = and 2 content-kinds.ps (falls 2 content-kinds.ps _<_ μ-content t) content.Pre
+abbrev content-below : ℕ → In 1 content-kinds.ps
+content-below t = and 1 content-kinds.ps (falls 1 content-kinds.ps _<_ μ-content t) content.Pre
 
-abbrev element-at : ℕ → In 2 element-kinds.ps
-element-at t = and 2 element-kinds.ps (is 2 element-kinds.ps μ-element t) element.Pre
+abbrev element-at : ℕ → In 1 element-kinds.ps
+element-at t = and 1 element-kinds.ps (is 1 element-kinds.ps μ-element t) element.Pre
 
-abbrev element-below : ℕ → In 2 element-kinds.ps
-element-below t = and 2 element-kinds.ps (falls 2 element-kinds.ps _<_ μ-element t) element.Pre
+abbrev element-below : ℕ → In 1 element-kinds.ps
+element-below t = and 1 element-kinds.ps (falls 1 element-kinds.ps _<_ μ-element t) element.Pre
 
 abbrev content-calls : ℕ → content-lts.Claims
 content-calls t = (filler-lt-reads.Asked, filler-lt-reads.Learnt, end-tag-reads.Asked, end-tag-reads.Learnt, element-below t, element.Post)
 
 abbrev content-Inv-loop : content-lts.InvT-loop
-content-Inv-loop s at left from to table₀ i₀ table i = Rest left (take (to - from) (drop from s)) s at i
+content-Inv-loop s at left from to i₀ i = Rest left (take (to - from) (drop from s)) s at i
 
 abbrev content-μ-loop : content-lts.MeasureT-loop
-content-μ-loop s at left from to table₀ i₀ table i = length s - i
+content-μ-loop s at left from to i₀ i = length s - i
 
 content-loop-holds : (t : ℕ) → content-lts.Need-loop-holds (content-calls t) (content-at t) content.Post content-Inv-loop content-μ-loop
 content-loop-holds t c = rest-start _ _ _ _ (c .before .pre .1 .0)

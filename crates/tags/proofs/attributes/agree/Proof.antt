@@ -3,7 +3,7 @@ use Prim.Native.Nat.{_-_, _≤_}
 use native.Mathlib.Omega.{arith}
 use borrow.Author.Tests.{not-false}
 use Rattle.tags.specs.Names.{Agree}
-use Rattle.tags.proofs.TableLaws.{agree-more}
+use Rattle.tags.proofs.CompareLaws.{agree-more}
 use Rattle.tags.proofs.attributes.agree.Statement.{statement}
 use Rattle.tags.proofs.attributes.agree.Tie as tie
 

@@ -1,6 +1,6 @@
 -- The bytes that are taken are those of the name.
 use native.Mathlib.Omega.{arith}
-use Rattle.tags.proofs.TableLaws.{mark-is}
+use Rattle.tags.proofs.MarkLaws.{mark-is}
 use borrow.Author.Needs.{needs}
 use Rattle.tags.proofs.attributes.mark.Statement.{statement}
 use Rattle.tags.proofs.attributes.mark.Tie as tie
