@@ -22,7 +22,7 @@ use Rattle.scan.proofs.Chain.{known}
 use Rattle.scan.specs.declared.Step.{Step}
 use Rattle.scan.specs.declared.Step.the-variants.{Done, Open, Bad}
 use Rattle.reader.specs.Outline.{childOf, lead}
-use Rattle.reader.specs.Message.{GotInner}
+use Rattle.reader.specs.Message.{Drawn, GotInner}
 use Rattle.reader.specs.Answer.{AtMost, bare, Outlined}
 use Rattle.reader.specs.declared.message.Inner.{Inner}
 use Rattle.reader.specs.declared.answer.Answer.the-variants.{Ends, More, Malformed, TooLong}
@@ -101,13 +101,19 @@ module _ (s : Bytes) (start n : ℕ) (k : Skipped s 0 start) (m : AtMost (length
   the-answer = subst (λ (a : ℕ). Answers s (answerAt a w)) long-g (from-window glue-behind in-window (answerAt (length g) w) (answers (window-behind glue-behind in-window)))
 
   pub outline-ends : (old new : List ℕ) (r : Inner) {e : ℕ} → GotInner childOf lead part start old new r (layoutP w) → r .end ≡ Done e → Outlined s old new (record { answer = Ends start e; from = r .from; to = r .to; count = r .count; inside = r .inside })
-  outline-ends old new r {e} c q = record { answers = subst (λ (a : PaperAnswer). Answers s a) there the-answer; rest = record { layout = l; laid = laid; lines = c .lines l e q so } }
+  outline-ends old new r {e} c q = record { answers = subst (λ (a : PaperAnswer). Answers s a) there the-answer; rest = record { layout = l; laid = laid; lines = drawn .lines; table = λ h. drawn .table .noted (record { whole = h; short = fits }) } }
     where
       l : Layout
       l = known q (c .got) .says .0
 
       so : layoutP w ≡ done l (drop e part)
       so = known q (c .got) .says .3
+
+      drawn : Drawn part (start + length (lead l)) (childOf l) (r .from) (r .to) (r .count) (r .inside) old new
+      drawn = c .lines l e q so
+
+      fits : length part ≤ r .to + MESSAGE
+      fits = let a = long-part in let b = m .small in let d = drawn .lines .ends in omega arith
 
       least : start + 1 ≤ e
       least = known q (c .got) .says .1

@@ -74,25 +74,25 @@ fails-none {s} {at} {r} a g f x n = go r a g
     go Open a g = done≢more (next-read n) (g .says)
     go (Bad p) a g = done≢bad (next-read n) (g .says .2)
 
-module _ (s : Bytes) (at : ℕ) (old new : List ℕ) (r : Child) where
+module _ (s : Bytes) (at : ℕ) (r : Child) where
   -- no child
-  absent : r ≡ noChild → ((f : Filler) (x : Element) → ¬ Next (drop at s) f x) → NextChild s at old new r
+  absent : r ≡ noChild → ((f : Filler) (x : Element) → ¬ Next (drop at s) f x) → NextChild s at r
   absent q n = record { found = λ z. clash (sym z ∙ ap (λ (c : Child). c .found) q); none = λ z. (q, n) }
 
-  pub child-out : length s < at → r ≡ noChild → NextChild s at old new r
+  pub child-out : length s < at → r ≡ noChild → NextChild s at r
   child-out h q = absent q (fails-none {s = s} {at = at} {r = Open} (inl refl) (record { says = let k : length s ≤ at = omega arith in ap nextP (drop-of-length-le s k) ∙ next-open }))
 
-  pub child-bare : {x : Step} → Fails x → GotFiller s at x → r ≡ noChild → NextChild s at old new r
+  pub child-bare : {x : Step} → Fails x → GotFiller s at x → r ≡ noChild → NextChild s at r
   child-bare f g q = absent q (fails-none f (pass f (g .says) 1 at (omega arith) _ (next-bind (drop at s))))
 
-  module _ (j : ℕ) (g₁ : Got 1 s at (Done j) (fillTok (drop at s))) (c : Inner) (g : GotInner itself none s j old new c (elementP (drop j s))) where
+  module _ (j : ℕ) (g₁ : Got 1 s at (Done j) (fillTok (drop at s))) (old new : List ℕ) (c : Inner) (g : GotInner itself none s j old new c (elementP (drop j s))) where
     so : nextP (drop at s) ≡ elementP (drop j s)
     so = next-bind (drop at s) ∙ then-done _ (g₁ .says .3)
 
-    pub child-none : Fails (c .end) → r ≡ noChild → NextChild s at old new r
+    pub child-none : Fails (c .end) → r ≡ noChild → NextChild s at r
     child-none f q = absent q (fails-none f (moved (g .got) 1 at (let h = g₁ .says .1 in omega arith) (let h = g₁ .says .1 in omega arith) so))
 
-    pub child-found : {e : ℕ} → c .end ≡ Done e → r ≡ record { found = true; from = c .from; to = c .to; count = c .count; inside = c .inside; next = e } → NextChild s at old new r
+    pub child-found : {e : ℕ} → c .end ≡ Done e → r ≡ record { found = true; from = c .from; to = c .to; count = c .count; inside = c .inside; next = e } → NextChild s at r
     child-found {e} z q = record { found = λ _. stands; none = λ y. clash (sym (ap (λ (c : Child). c .found) q) ∙ y) }
       where
         x : Element
@@ -113,16 +113,16 @@ module _ (s : Bytes) (at : ℕ) (old new : List ℕ) (r : Child) where
         place : j ≡ at + length (spellFiller f) + 1
         place = filler-there s at j g₁
 
-        stands : Stands s at old new r
+        stands : Stands s at r
         stands =
             let (u, i, l) = sound (read-exact (DEPTH - 3)) (drop j s) x (drop e s) said in
             let (w, good) = filler-word s at j g₁ in
             let n : length s - j ≡ length u + (length s - e) = sym (length-drop j s) ∙ ap length i ∙ length-append u (drop e s) ∙ ap (λ (m : ℕ). length u + m) (length-drop e s) in
             let k : suc (length u) ≡ length (spellElement x) = ap length (l .spelt) in
-            subst (λ (r : Child). Stands s at old new r) (sym q) (record {
+            subst (λ (r : Child). Stands s at r) (sym q) (record {
               f = f;
               x = x;
               next = record { rest = drop e s; filler = good; element = l .good; whole = w ∙ ap (λ (y : Bytes). spellFiller f ++ code "<" ∷ y) i ∙ ap (λ (y : Bytes). spellFiller f ++ (y ++ drop e s)) (l .spelt) };
-              lines = subst (λ (m : ℕ). Outlines m x (c .from) (c .to) (c .count) (c .inside) old new) (let p = place in omega arith) (g .lines x e z said);
+              lines = subst (λ (m : ℕ). Outlines m x (c .from) (c .to) (c .count) (c .inside)) (let p = place in omega arith) (g .lines x e z said .lines);
               ends = let p = place in let a = least in let b = room in omega arith;
             })

@@ -1,6 +1,6 @@
 -- The next child in a content.
 use mathlib.Core.Path.{_≡_}
-use mathlib.Core.List.{List, _++_}
+use mathlib.Core.List.{_++_}
 use mathlib.Core.Bool.{true, false}
 use Prim.Native.Nat.{ℕ, _+_, _-_}
 use lib.ListN.{length, drop}
@@ -22,14 +22,14 @@ pub record Next (w : Bytes) (f : Filler) (x : Element) : Type 0 where
   pub whole : w ≡ spellFiller f ++ (spellElement x ++ rest)
 
 -- where its parts stand, and where it ends
-pub record Stands (s : Bytes) (at : ℕ) (old new : List ℕ) (r : Child) : Type 0 where
+pub record Stands (s : Bytes) (at : ℕ) (r : Child) : Type 0 where
   pub f : Filler
   pub x : Element
   pub next : Next (drop at s) f x
-  pub lines : Outlines (at + length (spellFiller f) + 1) x (r .from) (r .to) (r .count) (r .inside) old new
+  pub lines : Outlines (at + length (spellFiller f) + 1) x (r .from) (r .to) (r .count) (r .inside)
   pub ends : r .next ≡ at + length (spellFiller f) + length (spellElement x)
 
--- a child is found exactly if one stands at `at`. Without one nothing is said of the table
-pub record NextChild (s : Bytes) (at : ℕ) (old new : List ℕ) (r : Child) : Type 0 where
-  pub found : r .found ≡ true → Stands s at old new r
+-- a child is found exactly if one stands at `at`
+pub record NextChild (s : Bytes) (at : ℕ) (r : Child) : Type 0 where
+  pub found : r .found ≡ true → Stands s at r
   pub none : r .found ≡ false → (r ≡ noChild) × ((f : Filler) (x : Element) → ¬ Next (drop at s) f x)

@@ -1,8 +1,8 @@
 -- What the answers of the readers of tags and elements say of the models.
 use mathlib.Core.Path.{_≡_, refl, sym, ap, _∙_}
-use mathlib.Core.List.{List, _++_}
+use mathlib.Core.List.{List}
 use mathlib.Core.Bool.{true}
-use Prim.Native.Nat.{ℕ, _+_, _-_, _*_, _≤_, _<_}
+use Prim.Native.Nat.{ℕ, _+_, _-_, _≤_, _<_}
 use lib.ListN.{length, take, drop}
 use Rattle.exact.specs.Exact.{Out, done, Reader}
 use Rattle.exact.specs.Chain.{retP}
@@ -14,7 +14,7 @@ use Rattle.scan.specs.Pieces.{Got, nameTok, chained, gluedP}
 use Rattle.scan.specs.Unfold.{and-ext, and-and, glued-bind}
 use Rattle.scan.specs.declared.Step.{Step}
 use Rattle.scan.specs.declared.Step.the-variants.{Done}
-use Rattle.tags.specs.Places.{places}
+use Rattle.tags.specs.Heads.{Noted}
 use Rattle.reader.specs.declared.elements.Start.{Start}
 
 -- filler and the `<` behind it, wherever it stands
@@ -46,14 +46,14 @@ pub record Started : Type 0 where
 unfoldable pub startP : Reader Started
 startP t = chained (nameTok t) (λ n u. chained (headP true u) (λ h v. done (record { name = n; head = h }) v))
 
--- a tag that was read at `at`: its name, whether it is empty, its attributes and their places in the table
+-- a tag that was read at `at`: its name, whether it is empty, its attributes and their places in a table that is lent
 pub record StartOf (s : Bytes) (at : ℕ) (old new : List ℕ) (v : Started) (r : Start) : Type 0 where
   pub from : at + 1 ≤ r .to
   pub upto : r .to < length s
   pub name : v .name ≡ take (r .to - at) (drop at s)
   pub empty : r .empty ≡ v .head .empty
   pub count : r .count ≡ length (v .head .attributes)
-  pub table : new ≡ places (r .to) (v .head .attributes) ++ drop (4 * r .count) old
+  pub table : Noted s (r .to) old new (v .head .attributes)
   pub head-at : (e : ℕ) → r .end ≡ Done e → (r .to + 1 ≤ e) × (headP true (drop (r .to) s) ≡ done (v .head) (drop e s))
 
 -- what the answer says of the model; and, if v was read, what it says of v

@@ -17,7 +17,8 @@ use Rattle.scan.specs.Pieces.{Got, chained, endTagP}
 use Rattle.scan.specs.declared.Step.{Step}
 use Rattle.scan.specs.declared.Step.the-variants.{Done}
 use Rattle.reader.specs.Elements.{fillTok}
-use Rattle.reader.specs.Outline.{innerOf, lead, Outlines}
+use Rattle.tags.specs.Heads.{Noted}
+use Rattle.reader.specs.Outline.{innerOf, tagIn, lead, Outlines}
 use Rattle.reader.specs.declared.message.Inner.{Inner}
 
 abbrev pub withEnd : Inner → Step → Inner
@@ -30,10 +31,15 @@ itself x = x
 abbrev pub none : {A : Type 0} → A → Bytes
 none x = []
 
+-- where an element stands, and what a table holds that is lent for its attributes
+pub record Drawn (s : Bytes) (at : ℕ) (x : Element) (from to count inside : ℕ) (old new : List ℕ) : Type 0 where
+  pub lines : Outlines at x from to count inside
+  pub table : Noted s to old new (tagIn x .attributes)
+
 -- what the answer says of the outcome o; and, if v was read, where v's child stands and what the table holds
 pub record GotInner {A : Type 0} (child : A → Element) (before : A → Bytes) (s : Bytes) (at : ℕ) (old new : List ℕ) (r : Inner) (o : Out A) : Type 0 where
   pub got : Got 1 s at (r .end) o
-  pub lines : (v : A) (e : ℕ) → r .end ≡ Done e → o ≡ done v (drop e s) → Outlines (at + length (before v)) (child v) (r .from) (r .to) (r .count) (r .inside) old new
+  pub lines : (v : A) (e : ℕ) → r .end ≡ Done e → o ≡ done v (drop e s) → Drawn s (at + length (before v)) (child v) (r .from) (r .to) (r .count) (r .inside) old new
 
 -- the root's child, filler and the end tag, whatever was read before
 unfoldable pub insideP : Bytes → Head → Filler → Reader Root

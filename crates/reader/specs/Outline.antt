@@ -1,16 +1,15 @@
 -- Where the root's child stands in a message, and what an outline says of it.
 use mathlib.Core.Path.{_≡_}
-use mathlib.Core.List.{List, _∷_, _++_}
-use Prim.Native.Nat.{ℕ, _+_, _*_}
+use mathlib.Core.List.{_∷_, _++_}
+use Prim.Native.Nat.{ℕ, _+_}
 use Prim.Native.Char.{code}
-use lib.ListN.{length, drop}
+use lib.ListN.{length}
 use Rattle.grammar.specs.Bytes.{Bytes, text}
 use Rattle.grammar.specs.Attribute.{spellAttributes}
 use Rattle.grammar.specs.Filler.{spellFiller}
 use Rattle.grammar.specs.Element.{Tag, Element, empty, full}
 use Rattle.grammar.specs.Declaration.{spellDeclaration}
 use Rattle.grammar.specs.Message.{Root, Layout, plain, declared, hermes}
-use Rattle.tags.specs.Places.{places}
 
 -- "The root's child names the message"
 abbrev pub innerOf : Root → Element
@@ -39,10 +38,9 @@ insideFrom to (empty t) = 0
 insideFrom to (full t c g) = to + length (spellAttributes (t .attributes) ++ (t .trail ++ text ">"))
 
 -- the element whose name starts at `at`: where the name stands, how many attributes there are, the place behind its
--- start tag; in the table their places stand first, and the rest of it is as it was
-pub record Outlines (at : ℕ) (x : Element) (from to count inside : ℕ) (old new : List ℕ) : Type 0 where
+-- start tag
+pub record Outlines (at : ℕ) (x : Element) (from to count inside : ℕ) : Type 0 where
   pub starts : from ≡ at
   pub ends : to ≡ at + length (tagIn x .name)
   pub counts : count ≡ length (tagIn x .attributes)
-  pub table : new ≡ places to (tagIn x .attributes) ++ drop (4 * count) old
   pub behind : inside ≡ insideFrom to x

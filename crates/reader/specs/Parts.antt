@@ -59,7 +59,7 @@ module _ (s : Bytes) (at : ℕ) (t : Tag) (tail : Bytes) (e : drop at s ≡ t .n
   attributes-stand : drop to s ≡ spellAttributes (t .attributes) ++ tail
   attributes-stand = ap (λ (m : ℕ). drop m s) b ∙ behind s (t .name) (spellAttributes (t .attributes) ++ tail) at e
 
-pub parts-stand : (s : Bytes) (at : ℕ) (x : Element) {from to count inside : ℕ} {old new : List ℕ} (rest : Bytes) → drop at s ≡ behindLt x ++ rest → Outlines at x from to count inside old new → Parts s x from to inside rest
+pub parts-stand : (s : Bytes) (at : ℕ) (x : Element) {from to count inside : ℕ} (rest : Bytes) → drop at s ≡ behindLt x ++ rest → Outlines at x from to count inside → Parts s x from to inside rest
 parts-stand s at (empty t) {from} {to} rest e o =
     let z : (t .name ++ (spellAttributes (t .attributes) ++ (t .trail ++ text "/>"))) ++ rest ≡ t .name ++ (spellAttributes (t .attributes) ++ ((t .trail ++ text "/>") ++ rest)) = simp append-assoc in
     record {
@@ -115,7 +115,7 @@ accepted-parts {s} {start} {end} a =
 pub accepted-reads : {s : Bytes} {start end from to count inside : ℕ} {old new : List ℕ} (a : Accepted s start end from to count inside old new) → Message (take (end - start) (drop start s)) (readLayout (a .layout))
 accepted-reads a = record { layout = a .layout; laid = a .laid; reads = refl }
 
--- an attribute that stands at `at`: its name and its raw value stand at its places in the table, and the next attribute behind it
+-- an attribute that stands at `at`: its name and its raw value stand at its places, and the next attribute behind it
 pub record AttributeAt (s : Bytes) (at : ℕ) (a : Attribute) (tail : Bytes) : Type 0 where
   pub name : take (nameEnd at a - nameAt at a) (drop (nameAt at a) s) ≡ a .name
   pub value : take (valueEnd at a - valueAt at a) (drop (valueAt at a) s) ≡ spellValue (a .value)
@@ -162,7 +162,7 @@ attribute-stands s at a l y e = record { name = standing s (a .name) (a .mid ++ 
     shut : drop (valueEnd at a) s ≡ q ++ tail
     shut = behind s v (q ++ tail) (valueAt at a) valued
 
-pub child-parts : {s : Bytes} {at : ℕ} {old new : List ℕ} {r : Child} (p : Stands s at old new r) → Parts s (p .x) (r .from) (r .to) (r .inside) (p .next .rest)
+pub child-parts : {s : Bytes} {at : ℕ} {r : Child} (p : Stands s at r) → Parts s (p .x) (r .from) (r .to) (r .inside) (p .next .rest)
 child-parts {s} {at} p =
     let f = spellFiller (p .f) in
     let e : drop at s ≡ (f ++ code "<" ∷ []) ++ (behindLt (p .x) ++ p .next .rest) = p .next .whole ∙ ap (λ (y : Bytes). f ++ (y ++ p .next .rest)) (element-is (p .x)) ∙ sym (append-assoc f (code "<" ∷ []) (behindLt (p .x) ++ p .next .rest)) in
@@ -215,18 +215,18 @@ end-no-child {w} f y h e f′ x n =
     done≢bad (ap metP (met-whole n) ∙ met-exact .comp (met-word n) (met f′ x) (n .rest) (met-there n)) b
 
 -- in a content, `child` finds the next child, and the rest of the content behind it
-pub record NextIn (s : Bytes) (at : ℕ) (f : Filler) (x : Element) (left : Bytes) (old new : List ℕ) (r : Child) : Type 0 where
+pub record NextIn (s : Bytes) (at : ℕ) (f : Filler) (x : Element) (left : Bytes) (r : Child) : Type 0 where
   pub found : r .found ≡ true
-  pub lines : Outlines (at + length (spellFiller f) + 1) x (r .from) (r .to) (r .count) (r .inside) old new
+  pub lines : Outlines (at + length (spellFiller f) + 1) x (r .from) (r .to) (r .count) (r .inside)
   pub left-over : drop (r .next) s ≡ left
 
-abbrev pub InContent : Bytes → ℕ → Content → Bytes → List ℕ → List ℕ → Child → Type 0
-InContent s at (bare f) end old new r = r ≡ noChild
-InContent s at (child f x c) end old new r = NextIn s at f x (spellContent c ++ end) old new r
+abbrev pub InContent : Bytes → ℕ → Content → Bytes → Child → Type 0
+InContent s at (bare f) end r = r ≡ noChild
+InContent s at (child f x c) end r = NextIn s at f x (spellContent c ++ end) r
 
 -- n is the name of the element whose content this is
-pub in-content : {s : Bytes} {at : ℕ} {old new : List ℕ} {r : Child} (n g rest : Bytes) (c : Content) → GoodContent (DEPTH - 2) c → drop at s ≡ spellContent c ++ (spellEnd n g ++ rest) → NextChild s at old new r → InContent s at c (spellEnd n g ++ rest) old new r
-in-content {s} {at} {old} {new} {r} n g rest (bare f) (good-bare h) e p = go (r .found) refl
+pub in-content : {s : Bytes} {at : ℕ} {r : Child} (n g rest : Bytes) (c : Content) → GoodContent (DEPTH - 2) c → drop at s ≡ spellContent c ++ (spellEnd n g ++ rest) → NextChild s at r → InContent s at c (spellEnd n g ++ rest) r
+in-content {s} {at} {r} n g rest (bare f) (good-bare h) e p = go (r .found) refl
   where
     go : (z : Bool) → r .found ≡ z → r ≡ noChild
     go false q = p .none q .0
@@ -234,7 +234,7 @@ in-content {s} {at} {old} {new} {r} n g rest (bare f) (good-bare h) e p = go (r 
       where
         ends : spellFiller f ++ (spellEnd n g ++ rest) ≡ spellFiller f ++ code "<" ∷ code "/" ∷ (n ++ ((g ++ text ">") ++ rest))
         ends = ap (λ (y : Bytes). spellFiller f ++ code "<" ∷ code "/" ∷ y) (append-assoc n (g ++ text ">") rest)
-in-content {s} {at} {old} {new} {r} n g rest (child f x c) (good-child h k m) e p = go (r .found) refl
+in-content {s} {at} {r} n g rest (child f x c) (good-child h k m) e p = go (r .found) refl
   where
     left : Bytes
     left = spellContent c ++ (spellEnd n g ++ rest)
@@ -242,7 +242,7 @@ in-content {s} {at} {old} {new} {r} n g rest (child f x c) (good-child h k m) e 
     here : Next (drop at s) f x
     here = record { rest = left; filler = h; element = k; whole = e ∙ append-assoc (spellFiller f) (spellElement x ++ spellContent c) (spellEnd n g ++ rest) ∙ ap (λ (y : Bytes). spellFiller f ++ y) (append-assoc (spellElement x) (spellContent c) (spellEnd n g ++ rest)) }
 
-    go : (z : Bool) → r .found ≡ z → NextIn s at f x left old new r
+    go : (z : Bool) → r .found ≡ z → NextIn s at f x left r
     go false q = absurd (p .none q .1 f x here)
     go true q =
         let t = p .found q in
@@ -251,7 +251,7 @@ in-content {s} {at} {old} {new} {r} n g rest (child f x c) (good-child h k m) e 
         let l : r .next ≡ at + length (spellFiller f ++ spellElement x) = t .ends ∙ rw (a, b) (let y = length-append (spellFiller f) (spellElement x) in omega arith) in
         record {
           found = q;
-          lines = subst (λ (y : Element). Outlines (at + length (spellFiller f) + 1) y (r .from) (r .to) (r .count) (r .inside) old new) b (subst (λ (y : Filler). Outlines (at + length (spellFiller y) + 1) (t .x) (r .from) (r .to) (r .count) (r .inside) old new) a (t .lines));
+          lines = subst (λ (y : Element). Outlines (at + length (spellFiller f) + 1) y (r .from) (r .to) (r .count) (r .inside)) b (subst (λ (y : Filler). Outlines (at + length (spellFiller y) + 1) (t .x) (r .from) (r .to) (r .count) (r .inside)) a (t .lines));
           left-over = ap (λ (m : ℕ). drop m s) l ∙ behind s (spellFiller f ++ spellElement x) left at w;
         }
 

@@ -4,14 +4,14 @@ use mathlib.Core.Path.{_≡_, refl, sym, ap, subst, _∙_}
 use mathlib.Core.List.{List, [], _∷_, _++_, append-assoc, append-nil}
 use mathlib.Core.Logic.{_↔_}
 use mathlib.Core.Bool.{Bool, true, false}
-use Prim.Native.Nat.{ℕ, _+_, _≤_, _<_}
+use Prim.Native.Nat.{ℕ, _+_, _*_, _≤_, _<_}
 use native.Mathlib.Omega.{arith}
 use lib.ListN.{length, length-append, drop}
 use lib.Seq.{drop-at}
 use Rattle.exact.specs.Exact.{inhabited}
 use Rattle.exact.specs.Byte.{Starts, starts}
 use Rattle.grammar.specs.Bytes.{Bytes}
-use Rattle.grammar.specs.Limits.{MESSAGE}
+use Rattle.grammar.specs.Limits.{ATTRIBUTES, MESSAGE}
 use Rattle.grammar.specs.Glue.{isGlue, Glue}
 use Rattle.grammar.specs.Filler.{Filler, spellFiller}
 use Rattle.grammar.specs.Tree.{Tree}
@@ -23,7 +23,8 @@ use Rattle.model.specs.Messages.{message-exact}
 use Rattle.model.specs.Answers.{behind-one}
 use Rattle.model.specs.Cuts.{message-starts, piece-behind}
 use Rattle.model.specs.Theorems.{one-layout, answers-only, tail-free as tail-free-by}
-use Rattle.reader.specs.Outline.{childOf, lead, insideFrom, Outlines}
+use Rattle.tags.specs.Places.{places}
+use Rattle.reader.specs.Outline.{childOf, tagIn, lead, insideFrom, Outlines}
 use Rattle.reader.specs.Answer.{paper, Accepted, RestOf, Outlined}
 use Rattle.reader.specs.declared.answer.Answer.{Answer}
 use Rattle.reader.specs.declared.answer.Answer.the-variants.{Ends, More, Malformed, TooLong}
@@ -52,22 +53,21 @@ paper-injective a b e = sym (code-paper a) ∙ ap code-of e ∙ code-paper b
 pub read-only : (s : Bytes) (a b : Answer) → Answers s (paper a) → Answers s (paper b) → a ≡ b
 read-only s a b p q = paper-injective a b (answers-only s (paper a) (paper b) p q)
 
--- what is said of an element's places determines them, and the table
-same-lines : {m m′ : ℕ} {x x′ : Element} {f t c i f′ t′ c′ i′ : ℕ} {old new new′ : List ℕ} → m ≡ m′ → x ≡ x′
-    → Outlines m x f t c i old new → Outlines m′ x′ f′ t′ c′ i′ old new′ → (f ≡ f′) × (t ≡ t′) × (c ≡ c′) × (i ≡ i′) × (new ≡ new′)
-same-lines {m} {m′} {x} {x′} {f} {t} {c} {i} {f′} {t′} {c′} {i′} {old} {new} {new′} e₁ e₂ p q′ =
-    let q₁ : Outlines m x′ f′ t′ c′ i′ old new′ = subst (λ (k : ℕ). Outlines k x′ f′ t′ c′ i′ old new′) (sym e₁) q′ in
-    let q : Outlines m x f′ t′ c′ i′ old new′ = subst (λ (k : Element). Outlines m k f′ t′ c′ i′ old new′) (sym e₂) q₁ in
+-- what is said of an element's places determines them
+same-lines : {m m′ : ℕ} {x x′ : Element} {f t c i f′ t′ c′ i′ : ℕ} → m ≡ m′ → x ≡ x′ → Outlines m x f t c i → Outlines m′ x′ f′ t′ c′ i′ → (f ≡ f′) × (t ≡ t′) × (c ≡ c′) × (i ≡ i′)
+same-lines {m} {m′} {x} {x′} {f} {t} {c} {i} {f′} {t′} {c′} {i′} e₁ e₂ p q′ =
+    let q₁ : Outlines m x′ f′ t′ c′ i′ = subst (λ (k : ℕ). Outlines k x′ f′ t′ c′ i′) (sym e₁) q′ in
+    let q : Outlines m x f′ t′ c′ i′ = subst (λ (k : Element). Outlines m k f′ t′ c′ i′) (sym e₂) q₁ in
     let a : f ≡ f′ = p .starts ∙ sym (q .starts) in
     let b : t ≡ t′ = p .ends ∙ sym (q .ends) in
     let d : c ≡ c′ = p .counts ∙ sym (q .counts) in
-    (a, b, d, p .behind ∙ ap (λ (t : ℕ). insideFrom t x) b ∙ sym (q .behind), p .table ∙ rw (b, d) (sym (q .table)))
+    (a, b, d, p .behind ∙ ap (λ (t : ℕ). insideFrom t x) b ∙ sym (q .behind))
 
-same-child : {s : Bytes} {start end f t c i f′ t′ c′ i′ : ℕ} {old new new′ : List ℕ} → Accepted s start end f t c i old new → Accepted s start end f′ t′ c′ i′ old new′ → (f ≡ f′) × (t ≡ t′) × (c ≡ c′) × (i ≡ i′) × (new ≡ new′)
+same-child : {s : Bytes} {start end f t c i f′ t′ c′ i′ : ℕ} {old new new′ : List ℕ} → Accepted s start end f t c i old new → Accepted s start end f′ t′ c′ i′ old new′ → (f ≡ f′) × (t ≡ t′) × (c ≡ c′) × (i ≡ i′)
 same-child {start} p q = let e = one-layout (p .laid) (q .laid) in same-lines (ap (λ (l : Layout). start + length (lead l)) e) (ap childOf e) (p .lines) (q .lines)
 
 same-rest : (s : Bytes) (old new new′ : List ℕ) (a : Answer) (f t c i f′ t′ c′ i′ : ℕ) → RestOf s old new a f t c i → RestOf s old new′ a f′ t′ c′ i′ → (f ≡ f′) × (t ≡ t′) × (c ≡ c′) × (i ≡ i′)
-same-rest s old new new′ (Ends start end) f t c i f′ t′ c′ i′ p q = let z = same-child p q in (z .0, z .1, z .2, z .3)
+same-rest s old new new′ (Ends start end) f t c i f′ t′ c′ i′ p q = same-child p q
 same-rest s old new new′ (More start) f t c i f′ t′ c′ i′ p q = (p .0 ∙ sym (q .0), p .1 ∙ sym (q .1), p .2 ∙ sym (q .2), p .3 ∙ sym (q .3))
 same-rest s old new new′ (Malformed start place) f t c i f′ t′ c′ i′ p q = (p .0 ∙ sym (q .0), p .1 ∙ sym (q .1), p .2 ∙ sym (q .2), p .3 ∙ sym (q .3))
 same-rest s old new new′ (TooLong start) f t c i f′ t′ c′ i′ p q = (p .0 ∙ sym (q .0), p .1 ∙ sym (q .1), p .2 ∙ sym (q .2), p .3 ∙ sym (q .3))
@@ -88,13 +88,14 @@ outline-only s old new new′ r r′ p q =
         ∙ ap (λ (x : ℕ). record { answer = r′ .answer; from = r′ .from; to = r′ .to; count = x; inside = r .inside }) c
         ∙ ap (λ (x : ℕ). record { answer = r′ .answer; from = r′ .from; to = r′ .to; count = r′ .count; inside = x }) d
 
--- nor, with a message, a second table
-pub table-only : (s : Bytes) (start end f t c i f′ t′ c′ i′ : ℕ) (old new new′ : List ℕ) → Accepted s start end f t c i old new → Accepted s start end f′ t′ c′ i′ old new′ → new ≡ new′
-table-only s start end f t c i f′ t′ c′ i′ old new new′ p q = same-child p q .4
+-- nor, with a message, a second table, if one is lent
+pub table-only : (s : Bytes) (start end f t c i f′ t′ c′ i′ : ℕ) (old new new′ : List ℕ) → length old ≡ 4 * ATTRIBUTES → Accepted s start end f t c i old new → Accepted s start end f′ t′ c′ i′ old new′ → new ≡ new′
+table-only s start end f t c i f′ t′ c′ i′ old new new′ h p q =
+    p .table h ∙ ap (λ (l : Layout). places 0 (tagIn (childOf l) .attributes) ++ drop (4 * length (tagIn (childOf l) .attributes)) old) (one-layout (p .laid) (q .laid)) ∙ sym (q .table h)
 
 -- no second child satisfies the promise of `child`
-pub child-only : (s : Bytes) (at : ℕ) (old new new′ : List ℕ) (r r′ : Child) → NextChild s at old new r → NextChild s at old new′ r′ → r ≡ r′
-child-only s at old new new′ r r′ p q = go (r .found) (r′ .found) refl refl
+pub child-only : (s : Bytes) (at : ℕ) (r r′ : Child) → NextChild s at r → NextChild s at r′ → r ≡ r′
+child-only s at r r′ p q = go (r .found) (r′ .found) refl refl
   where
     made : r .found ≡ r′ .found → r .from ≡ r′ .from → r .to ≡ r′ .to → r .count ≡ r′ .count → r .inside ≡ r′ .inside → r .next ≡ r′ .next → r ≡ r′
     made f a b c d e =
@@ -105,10 +106,10 @@ child-only s at old new new′ r r′ p q = go (r .found) (r′ .found) refl ref
         ∙ ap (λ (x : ℕ). record { found = r′ .found; from = r′ .from; to = r′ .to; count = r′ .count; inside = x; next = r .next }) d
         ∙ ap (λ (x : ℕ). record { found = r′ .found; from = r′ .from; to = r′ .to; count = r′ .count; inside = r′ .inside; next = x }) e
 
-    both : r .found ≡ true → r′ .found ≡ true → Stands s at old new r → Stands s at old new′ r′ → r ≡ r′
+    both : r .found ≡ true → r′ .found ≡ true → Stands s at r → Stands s at r′ → r ≡ r′
     both y y′ a b =
         let (e, d, z) = next-one (a .next) (b .next) in
-        let (g, h, i, j, k) = same-lines (ap (λ (f : Filler). at + length (spellFiller f) + 1) e) d (a .lines) (b .lines) in
+        let (g, h, i, j) = same-lines (ap (λ (f : Filler). at + length (spellFiller f) + 1) e) d (a .lines) (b .lines) in
         let l : r .next ≡ r′ .next = a .ends ∙ ap (λ (f : Filler). at + length (spellFiller f) + length (spellElement (a .x))) e ∙ ap (λ (x : Element). at + length (spellFiller (b .f)) + length (spellElement x)) d ∙ sym (b .ends) in
         made (y ∙ sym y′) g h i j l
 

@@ -6,7 +6,6 @@ ghost use Rattle.model.specs.Elements.{elemP, contentP};
 ghost use Rattle.scan.specs.Pieces.{Got, endTagP};
 ghost use Rattle.reader.specs.Elements.{GotFiller, GotStart};
 use scan::Step;
-use tags::attributes::Places;
 
 /// What may stand between elements, and the `<` behind it.
 pub fn filler_lt(s: &[u8], at: usize) -> Step
@@ -40,8 +39,8 @@ pub struct Start {
     pub end: Step,
 }
 
-/// A start tag or an empty tag, behind its `<`.
-pub fn start_tag(s: &[u8], at: usize, table: &mut Places) -> Start
+/// A start tag or an empty tag, behind its `<`. A table that is lent for its attributes has their places.
+pub fn start_tag(s: &[u8], at: usize, table: &mut [u16]) -> Start
     requires { ⌜ at ≤ length (now s) ⌝ }
     ensures { λ r. ⌜ GotStart (now (s .entry)) at (now (table .entry)) (now (table .exit)) r ⌝ }
 {
@@ -65,11 +64,12 @@ pub fn start_tag(s: &[u8], at: usize, table: &mut Places) -> Start
 }
 
 /// An element, behind its `<`, in which `left` more may be open.
-pub fn element(s: &[u8], at: usize, left: usize, table: &mut Places) -> Step
+pub fn element(s: &[u8], at: usize, left: usize) -> Step
     requires { ⌜ at ≤ length (now s) ⌝ }
     ensures { λ r. ⌜ Got 1 (now (s .entry)) at r (elemP (contentP left) (drop at (now (s .entry)))) ⌝ }
 {
-    let t = start_tag(s, at, &mut *table);
+    let mut none = [0u16; 0];
+    let t = start_tag(s, at, &mut none);
     let r = t.end;
     let Step::Done(e) = r else {
         return r;
@@ -78,11 +78,11 @@ pub fn element(s: &[u8], at: usize, left: usize, table: &mut Places) -> Step
         return r;
     }
     let to = t.to;
-    content(s, e, left, at, to, &mut *table)
+    content(s, e, left, at, to)
 }
 
 /// Elements with filler around them, and the end tag of the name that stands from `from` to `to`.
-pub fn content(s: &[u8], at: usize, left: usize, from: usize, to: usize, table: &mut Places) -> Step
+pub fn content(s: &[u8], at: usize, left: usize, from: usize, to: usize) -> Step
     requires { ⌜ (at ≤ length (now s)) × (from ≤ to) × (to ≤ length (now s)) ⌝ }
     ensures { λ r. ⌜ Got 1 (now (s .entry)) at r (contentP left (take (to - from) (drop from (now (s .entry)))) (drop at (now (s .entry)))) ⌝ }
 {
@@ -101,7 +101,7 @@ pub fn content(s: &[u8], at: usize, left: usize, from: usize, to: usize, table: 
         if left == 0 {
             return Step::Bad(j);
         }
-        let r = element(s, j, left - 1, &mut *table);
+        let r = element(s, j, left - 1);
         let Step::Done(e) = r else {
             return r;
         };

@@ -14,8 +14,6 @@ use answer::Child;
 use answer::Outline;
 use grammar::Limits;
 use scan::Step;
-use tags::attributes::PLACES;
-use tags::attributes::Places;
 
 /// At most as many bytes as a message may have.
 fn window(left: usize) -> usize
@@ -40,9 +38,9 @@ fn unread(answer: Answer) -> Outline
     }
 }
 
-/// What stands behind the glue in front of s; of a message the attributes of its root's child have their places in the
-/// table. Without a message the table is scratch.
-pub fn outline(s: &[u8], table: &mut Places) -> Outline
+/// What stands behind the glue in front of s; of a message the attributes of its root's child have their places in a table that is lent for them,
+/// counted from the place behind its name. Without a message the table is scratch.
+pub fn outline(s: &[u8], table: &mut [u16]) -> Outline
     ensures { λ r. ⌜ Outlined (now (s .entry)) (now (table .entry)) (now (table .exit)) r ⌝ }
 {
     let start = scan::skip_glue(s, 0);
@@ -78,8 +76,8 @@ pub fn outline(s: &[u8], table: &mut Places) -> Outline
 pub fn read(s: &[u8]) -> Answer
     ensures { λ r. ⌜ Answers (now (s .entry)) (paper r) ⌝ }
 {
-    let mut table = [0usize; PLACES];
-    let o = outline(s, &mut table);
+    let mut none = [0u16; 0];
+    let o = outline(s, &mut none);
     o.answer
 }
 
@@ -98,9 +96,9 @@ fn no_child() -> Child
 }
 
 /// The element that stands at `at` behind filler, as the next child stands in the content of a message's root's child or
-/// below it; its attributes have their places in the table. Where there is none the table is scratch.
-pub fn child(s: &[u8], at: usize, table: &mut Places) -> Child
-    ensures { λ r. ⌜ NextChild (now (s .entry)) at (now (table .entry)) (now (table .exit)) r ⌝ }
+/// below it.
+pub fn child(s: &[u8], at: usize) -> Child
+    ensures { λ r. ⌜ NextChild (now (s .entry)) at r ⌝ }
 {
     if s.len() < at {
         return no_child();
@@ -109,7 +107,8 @@ pub fn child(s: &[u8], at: usize, table: &mut Places) -> Child
     let Step::Done(j) = r else {
         return no_child();
     };
-    let c = message::child_at(s, j, Limits::DEPTH - 3, &mut *table);
+    let mut none = [0u16; 0];
+    let c = message::child_at(s, j, Limits::DEPTH - 3, &mut none);
     let r = c.end;
     let Step::Done(e) = r else {
         return no_child();

@@ -1,4 +1,4 @@
-// The root with its one child, and whole messages. The child's tag is read into the table that is kept, all other tags into another.
+// The root with its one child, and whole messages. Only the child's tag has a table, if one is lent.
 ghost use mathlib.Core.Path.{_≡_};
 ghost use Prim.Native.Nat.{_-_, _≤_};
 ghost use lib.ListN.{length, take, drop};
@@ -10,8 +10,6 @@ use crate::declaration;
 use crate::elements;
 use grammar::Limits;
 use scan::Step;
-use tags::attributes::PLACES;
-use tags::attributes::Places;
 
 // The name of the root.
 const HERMES: [u8; 6] = *b"Hermes";
@@ -39,8 +37,8 @@ pub fn ended(c: Inner, end: Step) -> Inner
     }
 }
 
-/// An element, behind its `<`, in which `left` more may be open; its attributes have their places in the table.
-pub fn child_at(s: &[u8], at: usize, left: usize, table: &mut Places) -> Inner
+/// An element, behind its `<`, in which `left` more may be open. A table that is lent for its attributes has their places.
+pub fn child_at(s: &[u8], at: usize, left: usize, table: &mut [u16]) -> Inner
     requires { ⌜ at ≤ length (now s) ⌝ }
     ensures { λ r. ⌜ GotInner itself none (now (s .entry)) at (now (table .entry)) (now (table .exit)) r (elemP (contentP left) (drop at (now (s .entry)))) ⌝ }
 {
@@ -65,8 +63,7 @@ pub fn child_at(s: &[u8], at: usize, left: usize, table: &mut Places) -> Inner
             inside: 0,
         };
     }
-    let mut other = [0usize; PLACES];
-    let r = elements::content(s, e, left, at, to, &mut other);
+    let r = elements::content(s, e, left, at, to);
     Inner {
         end: r,
         from: at,
@@ -77,7 +74,7 @@ pub fn child_at(s: &[u8], at: usize, left: usize, table: &mut Places) -> Inner
 }
 
 /// Behind the `<` of the root's child: the child, filler, and the end tag of the name that stands from `from` to `to`.
-pub fn inside(s: &[u8], at: usize, from: usize, to: usize, table: &mut Places) -> Inner
+pub fn inside(s: &[u8], at: usize, from: usize, to: usize, table: &mut [u16]) -> Inner
     requires { ⌜ (at ≤ length (now s)) × (from ≤ to) × (to ≤ length (now s)) ⌝ }
     ensures { λ r. ⌜ GotInside (take (to - from) (drop from (now (s .entry)))) (now (s .entry)) at (now (table .entry)) (now (table .exit)) r ⌝ }
 {
@@ -108,7 +105,7 @@ pub fn without(end: Step) -> Inner
 }
 
 /// The root, behind its `<`.
-pub fn root(s: &[u8], at: usize, table: &mut Places) -> Inner
+pub fn root(s: &[u8], at: usize, table: &mut [u16]) -> Inner
     requires { ⌜ at ≤ length (now s) ⌝ }
     ensures { λ r. ⌜ GotInner innerOf rootLead (now (s .entry)) at (now (table .entry)) (now (table .exit)) r (rootP (drop at (now (s .entry)))) ⌝ }
 {
@@ -116,8 +113,8 @@ pub fn root(s: &[u8], at: usize, table: &mut Places) -> Inner
     let Step::Done(a) = r else {
         return without(r);
     };
-    let mut other = [0usize; PLACES];
-    let tag = tags::attributes::head(s, a, false, &mut other);
+    let mut none = [0u16; 0];
+    let tag = tags::attributes::head(s, a, false, &mut none);
     let r = tag.end;
     let Step::Done(e) = r else {
         return without(r);
@@ -130,7 +127,7 @@ pub fn root(s: &[u8], at: usize, table: &mut Places) -> Inner
 }
 
 /// Behind `<?`: a declaration, filler, and the root.
-pub fn declared(s: &[u8], at: usize, table: &mut Places) -> Inner
+pub fn declared(s: &[u8], at: usize, table: &mut [u16]) -> Inner
     requires { ⌜ at ≤ length (now s) ⌝ }
     ensures { λ r. ⌜ GotInner childOf declaredLead (now (s .entry)) at (now (table .entry)) (now (table .exit)) r (declaredP (drop at (now (s .entry)))) ⌝ }
 {
@@ -146,7 +143,7 @@ pub fn declared(s: &[u8], at: usize, table: &mut Places) -> Inner
 }
 
 /// A message.
-pub fn message(s: &[u8], at: usize, table: &mut Places) -> Inner
+pub fn message(s: &[u8], at: usize, table: &mut [u16]) -> Inner
     requires { ⌜ at ≤ length (now s) ⌝ }
     ensures { λ r. ⌜ GotInner childOf lead (now (s .entry)) at (now (table .entry)) (now (table .exit)) r (layoutP (drop at (now (s .entry)))) ⌝ }
 {

@@ -18,6 +18,9 @@ pub enum Step {
 pub fn is_glue(b: u8) -> bool
     ensures { λ r. ⌜ r ≡ isGlue b ⌝ }
 {
+    if b' ' < b {
+        return false;
+    }
     match b {
         b' ' | b'\t' | b'\r' | b'\n' => true,
         _ => false,

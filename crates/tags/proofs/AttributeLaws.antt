@@ -1,32 +1,37 @@
 -- The steps of an attribute behind its name, of the whole attribute, and of a tag's end.
 use mathlib.Core.Path.{_≡_, refl, sym, ap, subst, _∙_}
-use mathlib.Core.List.{List, [], _∷_, _++_}
+use mathlib.Core.List.{List, [], _∷_, _++_, append-assoc}
 use mathlib.Core.Bool.{Bool, true, false}
 use Prim.Native.Nat.{ℕ, suc, _+_, _-_, _*_, _≤_, _<_}
 use native.Mathlib.Omega.{arith}
 use native.Mathlib.Numerals.{add-one}
 use lib.ListN.{length, length-append, take, drop, getD, length-take, length-drop}
-use lib.Seq.{drop-cons}
-use lib.Dec.{eqb}
-use borrow.Author.Tests.{ne-eqb}
+use lib.Seq.{drop-cons, getD-drop, getD-append-seam}
+use lib.Dec.{eqb, leb}
+use borrow.Author.Tests.{ne-eqb, eqb-true, leb-true, leb-false}
 use Rattle.scan.specs.Pieces.{Got, GotTok, byteP, wordP, glueTok, chained}
 use Rattle.scan.specs.Unfold.{then-and, and-ext, and-and, glue-bind, on-bind}
-use Rattle.scan.proofs.Chain.{last, then-done, then-more, then-bad, Fails, never, tok, pass}
+use Rattle.scan.proofs.Chain.{last, then-done, then-more, then-bad, Fails, never, tok, pass, known}
 use Rattle.model.specs.Values.{quote-is, IsValue, valueP, value-exact}
-use Rattle.model.specs.Glue.{glueP}
+use Rattle.model.specs.Glue.{always, glueP}
+use Rattle.model.specs.Names.{start-not-glue}
 use Rattle.model.specs.Attributes.{T, State, mk, fin, endP, quotedP, equalsP, attrP}
 use Rattle.exact.specs.Exact.{Out, done, bad, Seen, isDone, isMore, isBad, done≢more, done≢bad}
-use Rattle.exact.specs.Chain.{retP, andThen}
+use Rattle.exact.specs.Chain.{retP, andThen, clash}
+use Rattle.exact.specs.Token.{tokenP}
 use Rattle.exact.specs.Byte.{pick, onP, litP, choiceP}
-use Rattle.grammar.specs.Bytes.{Bytes, text, fits}
-use Rattle.grammar.specs.Value.{Item, spellValue, isQuote}
+use Rattle.grammar.specs.Bytes.{Bytes, text, within, digit, every, fits}
+use Rattle.grammar.specs.Glue.{isGlue}
+use Rattle.grammar.specs.Name.{letter, nameStart, nameByte}
+use Rattle.grammar.specs.Value.{Item, spellValue, isQuote, GoodValue}
 use Rattle.tags.specs.Parts.{IsQuote}
-use Rattle.tags.specs.Places.{stored}
-use Rattle.tags.specs.Names.{namesOf, FreshTo, FreshCase, Fresh}
-use Rattle.tags.specs.Inner.{Opening, openP, OpenedTo, Opened, AttributeTo, AttributeSays, failedTag, EndSays}
-use Rattle.tags.proofs.TableLaws.{stored-long}
+use Rattle.tags.specs.Names.{Lacks, One, Ready, FreshTo, FreshCase, Fresh, FreshSays}
+use Rattle.tags.specs.Inner.{Opening, openP, OpenedTo, Opened, AttributeTo, AttributeSays, lostGiven, failedTag, EndSays}
+use Rattle.tags.proofs.CompareLaws.{part-long, part-at, every-at, lacks-join}
+use Rattle.tags.proofs.QuoteLaws.{value-unquoted, lacks-byte-at}
 use Rattle.scan.specs.declared.Step.{Step}
 use Rattle.scan.specs.declared.Step.the-variants.{Done, Open, Bad}
+use Rattle.tags.specs.declared.attributes.Given.{Given}
 use Rattle.tags.specs.declared.attributes.Tag.{Tag}
 
 -- an answer that fails is no Done
@@ -54,6 +59,44 @@ byte-next b s i j g =
     go false e h =
         let q : byteP b (drop i s) ≡ bad (getD s i 0 ∷ drop (suc i) s) = at-byte h ∙ rw e in
         absurd (let z : _≡_ {A = ℕ} 0 1 = cc (q, g .says .3) in omega arith)
+
+-- the byte that was read
+byte-is : (b : ℕ) (s : Bytes) (i j : ℕ) → Got 1 s i (Done j) (byteP b (drop i s)) → getD s i 0 ≡ b
+unfolding byteP
+byte-is b s i j g = let h : i < length s = omega (arith, g .says .1, g .says .2) in go (eqb b (getD s i 0)) refl h
+  where
+    go : (z : Bool) → eqb b (getD s i 0) ≡ z → i < length s → getD s i 0 ≡ b
+    go true e h = sym (eqb-true b (getD s i 0) e)
+    go false e h =
+        let q : byteP b (drop i s) ≡ bad (getD s i 0 ∷ drop (suc i) s) = rw (drop-cons s i 0 h, e) in
+        absurd (let z : _≡_ {A = ℕ} 0 1 = cc (q, g .says .3) in omega arith)
+
+-- a token of glue is glue
+glue-token : (n t g u : Bytes) → every isGlue n ≡ true → tokenP (every isGlue) always retP n t ≡ done g u → every isGlue g ≡ true
+glue-token n [] g u h e = absurd (let z : _≡_ {A = ℕ} 0 1 = cc in omega arith)
+glue-token n (b ∷ t) g u h e = go (every isGlue (n ++ b ∷ [])) refl (λ k q. glue-token (n ++ b ∷ []) t g u k q) e
+  where
+    go : (z : Bool) → every isGlue (n ++ b ∷ []) ≡ z → (every isGlue (n ++ b ∷ []) ≡ true → tokenP (every isGlue) always retP (n ++ b ∷ []) t ≡ done g u → every isGlue g ≡ true)
+        → pick z (tokenP (every isGlue) always retP (n ++ b ∷ []) t) (done n (b ∷ t)) ≡ done g u → every isGlue g ≡ true
+    go true k f q = f k q
+    go false k f q = let z : n ≡ g = cc in subst (λ (y : Bytes). every isGlue y ≡ true) z h
+
+pub glue-read : {s : Bytes} {i j : ℕ} → GotTok 0 s i (Done j) (glueTok (drop i s)) → every isGlue (take (j - i) (drop i s)) ≡ true
+unfolding glueTok
+glue-read {s} {i} {j} g = glue-token [] (drop i s) (take (j - i) (drop i s)) (drop j s) refl (g .says .2)
+
+-- no quote among glue
+glue-lacks : (b : ℕ) → isGlue b ≡ true → (b ≡ 34 → ⊥) × (b ≡ 39 → ⊥)
+unfolding isGlue
+glue-lacks b h = (λ e. clash (sym h ∙ ap isGlue e), λ e. clash (sym h ∙ ap isGlue e))
+
+lacks-glue : (s : Bytes) (i j : ℕ) → i ≤ j → j ≤ length s → every isGlue (take (j - i) (drop i s)) ≡ true → Lacks 34 39 s i (j - i)
+lacks-glue s i j h l g k m =
+    glue-lacks (getD s (i + k) 0) (sym (ap isGlue (part-at s i (j - i) k m)) ∙ every-at isGlue (take (j - i) (drop i s)) k g (omega (arith, part-long s i (j - i) (omega arith))))
+
+lacks-byte : (s : Bytes) (i : ℕ) → getD s i 0 ≡ 61 → Lacks 34 39 s i (i + 1 - i)
+lacks-byte s i e k l = let z : i + k ≡ i = omega arith in let f : getD s (i + k) 0 ≡ 61 = ap (λ (x : ℕ). getD s x 0) z ∙ e in
+    (λ q. absurd (let y : _≡_ {A = ℕ} 61 34 = sym f ∙ q in omega (arith, y)), λ q. absurd (let y : _≡_ {A = ℕ} 61 39 = sym f ∙ q in omega (arith, y)))
 
 part-size : (s : Bytes) (i j : ℕ) → i ≤ j → j ≤ length s → length (take (j - i) (drop i s)) ≡ j - i
 part-size s i j h k = rw (length-take, length-drop) (omega arith)
@@ -97,6 +140,16 @@ module _ (s : Bytes) (at : ℕ) where
             let y = part-size s j k (omega arith) (omega (arith, in-s)) in
             omega arith
 
+        no-quotes : Lacks 34 39 s at (k - at)
+        no-quotes =
+            let a = g₁ .says .0 in
+            let b = g₁ .says .1 in
+            let c = byte-next 61 s i j g₂ in
+            let d = g₃ .says .0 in
+            let h = in-s in
+            let eq : Lacks 34 39 s i (j - i) = subst (λ (x : ℕ). Lacks 34 39 s i (x - i)) (sym c) (lacks-byte s i (byte-is 61 s i j g₂)) in
+            lacks-join s at i k (omega arith) (lacks-glue s at i (omega arith) (omega arith) (glue-read g₁)) (lacks-join s i j k (omega arith) eq (lacks-glue s j k (omega arith) (omega arith) (glue-read g₃)))
+
         pub opened-quote : isQuote (getD s k 0) ≡ true → Opened s at (Done (k + 1))
         unfolding opening
         opened-quote q =
@@ -110,7 +163,7 @@ module _ (s : Bytes) (at : ℕ) where
             to : (v : ℕ) → v ≡ k + 1 → openP (drop at s) ≡ done opening (drop (k + 1) s) → k < length s → OpenedTo s at v
             to v e r h =
                 let z : k + 1 - 1 ≡ k = omega arith in
-                rw e (record { opening = opening; far = ends; upto = omega arith; is-quote = q; quote = rw z; reads = r })
+                rw e (record { opening = opening; far = ends; upto = omega arith; is-quote = q; quote = rw z; unopened = rw z no-quotes; reads = r })
 
         pub opened-bare : isQuote (getD s k 0) ≡ false → Opened s at (Bad k)
         opened-bare q =
@@ -164,6 +217,42 @@ value-size q is-q s v f l h k e = go (value-exact q (quote-is q is-q) .see (drop
     go (isMore x y a d) = absurd (done≢more e d)
     go (isBad u b r a o d) = let z : valueP q (drop v s) ≡ bad (b ∷ r) = rw a (d r) in absurd (done≢bad e z)
 
+-- in a value its quote does not stand, and behind it it does
+module _ (q : ℕ) (is-q : isQuote q ≡ true) (s : Bytes) (v f : ℕ) (l : List Item) (h : v ≤ length s) (k : f ≤ length s) (e : valueP q (drop v s) ≡ done l (drop f s)) where
+  value-word : (r : Bytes) × GoodValue q l × (drop v s ≡ (spellValue l ++ q ∷ []) ++ r)
+  value-word = go (value-exact q (quote-is q is-q) .see (drop v s))
+    where
+      go : Seen (IsValue q) (valueP q) (drop v s) → (r : Bytes) × GoodValue q l × (drop v s ≡ (spellValue l ++ q ∷ []) ++ r)
+      go (isDone w x r a b d) =
+          let y : x ≡ l = cc in
+          (r, subst (λ (m : List Item). GoodValue q m) y (b .good), a ∙ ap (λ (m : Bytes). m ++ r) (b .spelt ∙ ap (λ (m : List Item). spellValue m ++ q ∷ []) y))
+      go (isMore x y a d) = absurd (done≢more e d)
+      go (isBad u b r a o d) = let z : valueP q (drop v s) ≡ bad (b ∷ r) = rw a (d r) in absurd (done≢bad e z)
+
+  size : v + length (spellValue l) + 1 ≡ f
+  size = value-size q is-q s v f l h k e
+
+  byte-of : (n : ℕ) → getD s (v + n) 0 ≡ getD (spellValue l ++ q ∷ value-word .0) n 0
+  byte-of n = sym (getD-drop v s n 0) ∙ ap (λ (m : Bytes). getD m n 0) (value-word .2 ∙ append-assoc (spellValue l) (q ∷ []) (value-word .0))
+
+  pub value-unshut : Lacks q q s v (f - 1 - v)
+  value-unshut n m =
+      let z = size in
+      let b : n < length (spellValue l) = omega arith in
+      let no : getD s (v + n) 0 ≡ q → ⊥ = λ w. lacks-byte-at q (spellValue l) (q ∷ value-word .0) n b (value-unquoted q l is-q (value-word .1)) (sym (byte-of n) ∙ w) in
+      (no, no)
+
+  pub value-shut : getD s (f - 1) 0 ≡ q
+  value-shut =
+      let z = size in
+      let b : f - 1 ≡ v + length (spellValue l) = omega arith in
+      ap (λ (m : ℕ). getD s m 0) b ∙ byte-of (length (spellValue l)) ∙ getD-append-seam (spellValue l) q (value-word .0) 0
+
+-- a name has no quote
+name-lacks : (b : ℕ) → nameByte b ≡ true → (b ≡ 34 → ⊥) × (b ≡ 39 → ⊥)
+unfolding nameByte nameStart letter within digit
+name-lacks b h = (λ e. clash (sym h ∙ ap nameByte e), λ e. clash (sym h ∙ ap nameByte e))
+
 -- a whole attribute
 fresh-fails : {s : Bytes} {earlier : List Bytes} {at : ℕ} {r : Step} → Fails r → Fresh s earlier at r → (may : Bool) (st : State) (g : Bytes) → st .seen ≡ earlier → Got 1 s at r (attrP may st g (drop at s))
 fresh-fails {s} {earlier} {at} {r} f y may st g e = go r f y
@@ -179,61 +268,91 @@ known-fresh {s} {earlier} {at} q y = subst (λ (r : Step). FreshCase s earlier a
 pub open-quote : {s : Bytes} {e v : ℕ} → OpenedTo s e v → IsQuote (getD s (v - 1) 0)
 open-quote o = record { is = subst (λ (x : ℕ). isQuote x ≡ true) (o .quote) (o .is-quote) }
 
-module _ (s : Bytes) (t : List ℕ) (n at : ℕ) where
-  pub attribute-name-fails : {r : Step} → Fails r → Fresh s (namesOf s t n) at r → AttributeSays s t t n at r
-  attribute-name-fails f y = record { says = fresh-fails f y; at-done = λ e q. not-done f q; long = refl }
+-- an attribute as it stands
+module _ (s : Bytes) (earlier : List Bytes) (at e v f : ℕ) (starts : nameStart (getD s at 0) ≡ true) (y : FreshTo s earlier at e) (o : OpenedTo s e v) (l : List Item) (k : f ≤ length s)
+    (value : valueP (getD s (v - 1) 0) (drop v s) ≡ done l (drop f s)) where
+  quote : ℕ
+  quote = getD s (v - 1) 0
 
-  module _ (e : ℕ) (y : FreshTo s (namesOf s t n) at e) where
-    abbrev Given : State → Bytes → Opening → Bytes → Out T
-    Given st g o u = chained (valueP (o .quote) u) (λ l v. done (mk st g (take (e - at) (drop at s)) (o .mid) (o .after) (o .quote) l) v)
+  name-long : length (take (e - at) (drop at s)) ≡ e - at
+  name-long = let a = y .far in let b = y .upto in part-size s at e (omega arith) (omega arith)
 
-    begun-at : (may : Bool) (st : State) (g : Bytes) → st .seen ≡ namesOf s t n → attrP may st g (drop at s) ≡ chained (openP (drop e s)) (Given st g)
-    begun-at may st g q = y .reads may st g q ∙ equals-open may st g (take (e - at) (drop at s)) (drop e s)
+  pub stands-one : (i : ℕ) → i ≤ at → every isGlue (take (at - i) (drop i s)) ≡ true → One s i f (take (e - at) (drop at s))
+  unfolding quote
+  stands-one i h g =
+      let a = y .far in
+      let b = o .far in
+      let c = value-size (getD s (v - 1) 0) (open-quote o .is) s v f l (o .upto) k value in
+      let n = name-long in
+      let d : at + (e - at) ≡ e = omega arith in
+      let w : v - 1 + 1 ≡ v = omega arith in
+      record {
+        start = at;
+        opens = v - 1;
+        shuts = f - 1;
+        begins = h;
+        glued = g;
+        bare = start-not-glue (getD s at 0) starts;
+        name-is = ap (λ (m : ℕ). take m (drop at s)) (sym n);
+        named = λ m p. y .named m (omega (arith, n, p));
+        name-ends = ap (λ (m : ℕ). nameByte (getD s m 0)) (ap (λ (m : ℕ). at + m) n ∙ d) ∙ y .ends;
+        inside = omega arith;
+        unopened = lacks-join s at e (v - 1) (omega arith) (λ m p. name-lacks (getD s (at + m) 0) (y .named m p)) (o .unopened);
+        quote = open-quote o .is;
+        order = omega arith;
+        unshut = subst (λ (m : ℕ). Lacks (getD s (v - 1) 0) (getD s (v - 1) 0) s m (f - 1 - m)) (sym w) (value-unshut (getD s (v - 1) 0) (open-quote o .is) s v f l (o .upto) k value);
+        shut = value-shut (getD s (v - 1) 0) (open-quote o .is) s v f l (o .upto) k value;
+        far = omega arith;
+        upto = k;
+      }
 
-    pub attribute-opening-fails : {r : Step} → Fails r → Opened s e r → AttributeSays s t t n at r
-    attribute-opening-fails f o = let h = y .far in
-        record { says = λ may st g q. pass f (o .says) 1 at (omega arith) (Given st g) (begun-at may st g q); at-done = λ v q. not-done f q; long = refl }
+module _ (s : Bytes) (first at : ℕ) (marks marks′ : List ℕ) where
+  pub attribute-name-fails : {r : Step} → Fails r → FreshSays s first at marks marks′ r → (d : Given) → d ≡ lostGiven r → AttributeSays s first at marks marks′ d
+  attribute-name-fails f y d q =
+      rw q (record { says = λ h. fresh-fails f (y .says h); at-done = λ h e z. not-done f z; marked = λ h e z. not-done f z; long = y .long })
+
+  module _ (e : ℕ) {r₁ : Step} (y : FreshSays s first at marks marks′ r₁) (is-e : r₁ ≡ Done e) where
+    fresh-to : (h : Ready s first marks at) → FreshTo s (h .stood .names) at e
+    fresh-to h = known-fresh is-e (y .says h)
+
+    abbrev GivenBy : State → Bytes → Opening → Bytes → Out T
+    GivenBy st g o u = chained (valueP (o .quote) u) (λ l v. done (mk st g (take (e - at) (drop at s)) (o .mid) (o .after) (o .quote) l) v)
+
+    begun-at : (h : Ready s first marks at) (may : Bool) (st : State) (g : Bytes) → st .seen ≡ h .stood .names → attrP may st g (drop at s) ≡ chained (openP (drop e s)) (GivenBy st g)
+    begun-at h may st g q = fresh-to h .reads may st g q ∙ equals-open may st g (take (e - at) (drop at s)) (drop e s)
+
+    pub attribute-opening-fails : {r : Step} → Fails r → Opened s e r → (d : Given) → d ≡ lostGiven r → AttributeSays s first at marks marks′ d
+    attribute-opening-fails f o d q =
+        rw q (record { says = λ h may st g z. pass f (o .says) 1 at (let m = fresh-to h .far in omega arith) (GivenBy st g) (begun-at h may st g z); at-done = λ h v z. not-done f z; marked = λ h v z. not-done f z; long = y .long })
 
     module _ (v : ℕ) (o : OpenedTo s e v) where
-      value-at : (may : Bool) (st : State) (g : Bytes) → st .seen ≡ namesOf s t n
+      value-at : (h : Ready s first marks at) (may : Bool) (st : State) (g : Bytes) → st .seen ≡ h .stood .names
           → attrP may st g (drop at s) ≡ chained (valueP (getD s (v - 1) 0) (drop v s)) (λ l u. done (mk st g (take (e - at) (drop at s)) (o .opening .mid) (o .opening .after) (o .opening .quote) l) u)
-      value-at may st g q = begun-at may st g q ∙ then-done (Given st g) (o .reads) ∙ ap (λ (x : ℕ). chained (valueP x (drop v s)) (λ l u. done (mk st g (take (e - at) (drop at s)) (o .opening .mid) (o .opening .after) (o .opening .quote) l) u)) (o .quote)
+      value-at h may st g q = begun-at h may st g q ∙ then-done (GivenBy st g) (o .reads) ∙ ap (λ (x : ℕ). chained (valueP x (drop v s)) (λ l u. done (mk st g (take (e - at) (drop at s)) (o .opening .mid) (o .opening .after) (o .opening .quote) l) u)) (o .quote)
 
-      pub attribute-value-fails : {r : Step} → Fails r → Got 1 s v r (valueP (getD s (v - 1) 0) (drop v s)) → AttributeSays s t t n at r
-      attribute-value-fails f g = let h = y .far in let k = o .far in
-          record { says = λ may st x q. pass f g 1 at (omega arith) _ (value-at may st x q); at-done = λ v q. not-done f q; long = refl }
-
-      pub attribute-read : (f : ℕ) → Got 1 s v (Done f) (valueP (getD s (v - 1) 0) (drop v s)) → 4 * n + 3 < length t → (t′ : List ℕ) → t′ ≡ stored t n at e v (f - 1) → AttributeSays s t t′ n at (Done f)
-      attribute-read f g fits t′ is-t =
-          let h = y .far in
-          let k = o .far in
-          let a = g .says .1 in
-          record {
-            says = λ may st x q. last g 1 at (omega arith) (omega arith) (λ l. mk st x (take (e - at) (drop at s)) (o .opening .mid) (o .opening .after) (o .opening .quote) l) (value-at may st x q);
-            at-done = λ x q. to x (cc);
-            long = rw is-t (stored-long s t n at e v (f - 1) fits);
-          }
+      pub attribute-read : (r : Step) → Got 1 s v r (valueP (getD s (v - 1) 0) (drop v s)) → AttributeSays s first at marks marks′ (record { past = e; value = v; end = r })
+      attribute-read r g = record {
+        says = λ h may st x q. last g 1 at (let a = fresh-to h .far in let b = o .far in omega arith) (let a = fresh-to h .far in let b = o .far in omega arith) (λ l. mk st x (take (e - at) (drop at s)) (o .opening .mid) (o .opening .after) (o .opening .quote) l) (value-at h may st x q);
+        at-done = λ h f q. to h f (known q g);
+        marked = λ h f q. y .marked h e is-e;
+        long = y .long;
+      }
         where
-          to : (x : ℕ) → x ≡ f → AttributeTo s t t′ n at x
-          to x q =
-              let a = g .says .1 in
+          to : (h : Ready s first marks at) (f : ℕ) → Got 1 s v (Done f) (valueP (getD s (v - 1) 0) (drop v s)) → AttributeTo s (h .stood .names) at e v f
+          to h f g =
               let b = value-size (getD s (v - 1) 0) (open-quote o .is) s v f (g .says .0) (o .upto) (g .says .2) (g .says .3) in
-              rw q (record {
+              record {
                 mid = o .opening .mid;
                 after = o .opening .after;
                 quote = o .opening .quote;
                 value = g .says .0;
-                nameTo = e;
-                valueFrom = v;
-                valueTo = f - 1;
-                name-some = y .far;
+                name-some = fresh-to h .far;
                 value-from = o .far;
-                value-to = omega arith;
-                far = omega arith;
+                value-to = b;
                 upto = g .says .2;
-                table = is-t;
-                reads = λ may st x q. value-at may st x q ∙ then-done _ (g .says .3);
-              })
+                one = stands-one s (h .stood .names) at e v f (h .stood .starts) (fresh-to h) o (g .says .0) (g .says .2) (g .says .3);
+                reads = λ may st x q. value-at h may st x q ∙ then-done _ (g .says .3);
+              }
 
 -- the end of a tag
 lit-as : {A : Type 0} (a : A) (cs x : Bytes) → litP cs a x ≡ chained (wordP cs x) (λ _ u. done a u)

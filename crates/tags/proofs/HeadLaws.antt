@@ -1,4 +1,4 @@
--- The loop over a tag's attributes: the state of the model, the list of what was read and the table grow together.
+-- The loop over a tag's attributes: the state of the model, the list of what was read and a table that is lent grow together.
 use mathlib.Core.Path.{_≡_, refl, sym, ap, _∙_}
 use mathlib.Core.List.{List, [], _∷_, _++_, append-assoc, append-nil}
 use mathlib.Core.Bool.{Bool, true, false, _&&_}
@@ -24,32 +24,37 @@ use Rattle.grammar.specs.Limits.{ATTRIBUTES}
 use Rattle.grammar.specs.Name.{nameStart}
 use Rattle.grammar.specs.Attribute.{Attribute, spellAttributes}
 use Rattle.tags.specs.Places.{nameAt, nameEnd, valueAt, valueEnd, places, stored}
-use Rattle.tags.specs.Heads.{HeadCase, HeadSays}
-use Rattle.tags.specs.Names.{namesOf, Table}
-use Rattle.tags.specs.Inner.{Ready, AttributeTo, AttributeSays, failedTag, EndCase, EndSays}
-use Rattle.tags.proofs.TableLaws.{names-stored, table-stored}
+use Rattle.tags.specs.Heads.{Lent, Noted, HeadCase, HeadSays}
+use Rattle.tags.specs.Names.{One, Rows, rows-none, rows-more, Marked, Ready}
+use Rattle.tags.specs.Inner.{AttributeTo, AttributeSays, PutRow, failedTag, EndCase, EndSays}
+use Rattle.tags.proofs.MarkLaws.{marked-none}
+use Rattle.tags.proofs.AttributeLaws.{glue-read}
 use Rattle.tags.proofs.PlaceLaws.{same-row, attribute-size, spell-append, places-stored}
 use Rattle.scan.specs.declared.Step.{Step}
 use Rattle.scan.specs.declared.Step.the-variants.{Done, Open, Bad}
+use Rattle.tags.specs.declared.attributes.Given.{Given}
 use Rattle.tags.specs.declared.attributes.Tag.{Tag}
 
--- n attributes are read up to i, and the table t has their places
-pub record InHead (may : Bool) (s : Bytes) (at : ℕ) (old t : List ℕ) (n i : ℕ) : Type 0 where
+-- n attributes are read up to i, their names are marked, and a table that is lent has their places
+pub record InHead (may : Bool) (s : Bytes) (at : ℕ) (old t marks : List ℕ) (n i : ℕ) : Type 0 where
   pub st : State
   pub read : List Attribute
   pub from : at + length (spellAttributes read) ≡ i
   pub upto : i ≤ length s
   pub size : length read ≡ n
   pub built : (l : List Attribute) → st .build l ≡ read ++ l
-  pub names : st .seen ≡ namesOf s t n
-  pub table : Table s t n
-  pub old-long : length old ≡ 128
-  pub places-are : t ≡ places at read ++ drop (4 * n) old
+  pub names : length (st .seen) ≡ n
+  pub rows : Rows s at i (st .seen)
+  pub marked : Marked marks (st .seen)
+  pub marks-long : length marks ≡ 64
+  pub room : n ≤ ATTRIBUTES
+  pub table-long : length t ≡ length old
+  pub places-are : Lent s at old → t ≡ places 0 read ++ drop (4 * n) old
   pub same : headP may (drop at s) ≡ loopP (turnP may) st (drop i s)
 
-pub head-start : (may : Bool) (s : Bytes) (at : ℕ) (old : List ℕ) → at ≤ length s → length old ≡ 128 → InHead may s at old old 0 at
+pub head-start : (may : Bool) (s : Bytes) (at : ℕ) (old marks : List ℕ) → at ≤ length s → length marks ≡ 64 → InHead may s at old old marks 0 at
 unfolding headP places
-head-start may s at old h k = record {
+head-start may s at old marks h k = record {
   st = record { seen = []; build = λ l. l };
   read = [];
   from = omega arith;
@@ -57,22 +62,18 @@ head-start may s at old h k = record {
   size = refl;
   built = λ l. refl;
   names = refl;
-  table = record { long = k; room = omega arith; fits = λ j x. absurd (omega arith) };
-  old-long = k;
-  places-are = refl;
+  rows = rows-none refl;
+  marked = marked-none marks;
+  marks-long = k;
+  room = omega arith;
+  table-long = refl;
+  places-are = λ _. refl;
   same = refl;
 }
-
-names-size : (s : Bytes) (t : List ℕ) (n : ℕ) → length (namesOf s t n) ≡ n
-names-size s t zero = refl
-names-size s t (suc n) = ap suc (names-size s t n)
 
 some-size : (g : Bytes) (k : ℕ) → length g ≡ k → nonEmpty g ≡ leb 1 k
 some-size [] k h = rw (← h)
 some-size (b ∷ g) k h = sym (le-leb 1 k (omega arith))
-
-table-long : {may : Bool} {s : Bytes} {at : ℕ} {old t : List ℕ} {n i : ℕ} → InHead may s at old t n i → length t ≡ length old
-table-long w = w .table .long ∙ sym (w .old-long)
 
 -- a reader that fails fails the tag
 pub head-fails : (may : Bool) (s : Bytes) (at : ℕ) (old t : List ℕ) {r : Step} → Fails r → Got 1 s at r (headP may (drop at s)) → length t ≡ length old → (tag : Tag) → tag ≡ failedTag r → HeadSays may s at old t tag
@@ -83,7 +84,7 @@ head-fails may s at old t {r} f g long tag q = rw q (go r f g)
     go Open f g = record { says = (record { no-end = refl; none = refl }, g .says); long = long }
     go (Bad p) f g = record { says = (record { no-end = refl; none = refl }, record { from = g .says .0; inside = g .says .1; reads = g .says .2 }); long = long }
 
-module _ (may : Bool) (s : Bytes) (at : ℕ) (old t : List ℕ) (n i : ℕ) (w : InHead may s at old t n i) where
+module _ (may : Bool) (s : Bytes) (at : ℕ) (old t marks : List ℕ) (n i : ℕ) (w : InHead may s at old t marks n i) where
   -- behind the glue g: an attribute, or the end
   abbrev Next : Bytes → Bytes → Out T
   Next g = ifP (nonEmpty g && leb (length (w .st .seen)) (ATTRIBUTES - 1)) (choiceP nameStart (attrP may (w .st) g) (endP may (w .st) g)) (endP may (w .st) g)
@@ -99,7 +100,7 @@ module _ (may : Bool) (s : Bytes) (at : ℕ) (old t : List ℕ) (n i : ℕ) (w :
 
   pub head-glue-fails : {r : Step} → Fails r → GotTok 0 s i r (glueTok (drop i s)) → (tag : Tag) → tag ≡ failedTag r → HeadSays may s at old t tag
   head-glue-fails f g tag q =
-      head-fails may s at old t f (pass f (tok g) 1 at i-far (λ g u. chained (Next g u) (onward (loopP (turnP may)))) (turned ∙ and-and (glueTok (drop i s)) Next (onward (loopP (turnP may))))) (table-long w) tag q
+      head-fails may s at old t f (pass f (tok g) 1 at i-far (λ g u. chained (Next g u) (onward (loopP (turnP may)))) (turned ∙ and-and (glueTok (drop i s)) Next (onward (loopP (turnP may))))) (w .table-long) tag q
 
   module _ (j : ℕ) (g : GotTok 0 s i (Done j) (glueTok (drop i s))) where
     abbrev glue : Bytes
@@ -115,11 +116,8 @@ module _ (may : Bool) (s : Bytes) (at : ℕ) (old t : List ℕ) (n i : ℕ) (w :
     in-s = g .says .1
 
     -- the tests of the model are those of the code
-    seen-size : length (w .st .seen) ≡ n
-    seen-size = ap length (w .names) ∙ names-size s t n
-
     behind-is : Next glue (drop j s) ≡ pick (leb 1 (j - i) && (leb n (ATTRIBUTES - 1) && nameStart (getD s j 0))) (attrP may (w .st) glue (drop j s)) (endP may (w .st) glue (drop j s))
-    behind-is = rw (some-size glue (j - i) glue-size, seen-size) (go (leb 1 (j - i)) (leb n (ATTRIBUTES - 1)) (nameStart (getD s j 0)) refl)
+    behind-is = rw (some-size glue (j - i) glue-size, w .names) (go (leb 1 (j - i)) (leb n (ATTRIBUTES - 1)) (nameStart (getD s j 0)) refl)
       where
         first : choiceP nameStart (attrP may (w .st) glue) (endP may (w .st) glue) (drop j s) ≡ pick (nameStart (getD s j 0)) (attrP may (w .st) glue (drop j s)) (endP may (w .st) glue (drop j s))
         first = rw (drop-cons s j 0 in-s)
@@ -133,7 +131,7 @@ module _ (may : Bool) (s : Bytes) (at : ℕ) (old t : List ℕ) (n i : ℕ) (w :
     -- the end of the tag
     pub head-ends : leb 1 (j - i) && (leb n (ATTRIBUTES - 1) && nameStart (getD s j 0)) ≡ false → (tag : Tag) → EndSays may s j n tag → HeadSays may s at old t tag
     unfolding chained
-    head-ends e tag x = record { says = go (tag .empty) (tag .count) (tag .end) (x .says); long = table-long w }
+    head-ends e tag x = record { says = go (tag .empty) (tag .count) (tag .end) (x .says); long = w .table-long }
       where
         ended : headP may (drop at s) ≡ chained (endP may (w .st) glue (drop j s)) (onward (loopP (turnP may)))
         ended = at-glue ∙ rw (behind-is, e)
@@ -153,7 +151,7 @@ module _ (may : Bool) (s : Bytes) (at : ℕ) (old t : List ℕ) (n i : ℕ) (w :
               upto = y .upto;
               ends = refl;
               counts = c ∙ sym (w .size) ∙ ap length (sym whole-list);
-              table = rw (whole-list, c) (w .places-are);
+              table = record { noted = λ k. w .places-are k ∙ ap (λ (m : ℕ). places 0 (w .read) ++ drop (4 * m) old) (sym (w .size)) ∙ ap (λ (l : List Attribute). places 0 l ++ drop (4 * length l) old) (sym whole-list) };
             }
         go empty count Open (c, y) = (c, ended ∙ then-more _ (y (w .st) glue))
         go empty count (Bad p) (c, y) = let a = i-far in let b = g .says .0 in let d = y .from in
@@ -164,56 +162,94 @@ module _ (may : Bool) (s : Bytes) (at : ℕ) (old t : List ℕ) (n i : ℕ) (w :
       some-glue : i < j
       some-glue = let z = leb-true 1 (j - i) (and-left (leb 1 (j - i)) _ e) in omega arith
 
-      pub head-ready : Ready s t n j
+      few : n < ATTRIBUTES
+      few = let r = and-right (leb 1 (j - i)) _ e in let z = leb-true n (ATTRIBUTES - 1) (and-left (leb n (ATTRIBUTES - 1)) _ r) in omega arith
+
+      pub head-ready : Ready s at marks j
       head-ready =
           let r = and-right (leb 1 (j - i)) _ e in
-          let z = leb-true n (ATTRIBUTES - 1) (and-left (leb n (ATTRIBUTES - 1)) _ r) in
-          record { table = w .table; room = omega arith; inside = in-s; starts = and-right (leb n (ATTRIBUTES - 1)) _ r }
+          let b = g .says .0 in
+          record {
+            stood = record { names = w .st .seen; upto = i; rows = w .rows; from = omega arith; glued = glue-read g; inside = in-s; starts = and-right (leb n (ATTRIBUTES - 1)) _ r };
+            marked = w .marked;
+            long = w .marks-long;
+          }
 
       at-attribute : headP may (drop at s) ≡ chained (attrP may (w .st) glue (drop j s)) (onward (loopP (turnP may)))
       at-attribute = at-glue ∙ rw (behind-is, e)
 
-      module _ (t′ : List ℕ) {r : Step} (x : AttributeSays s t t′ n j r) where
-        pub head-attribute-fails : Fails r → (tag : Tag) → tag ≡ failedTag r → HeadSays may s at old t′ tag
+      module _ (marks′ : List ℕ) {d : Given} (x : AttributeSays s at j marks marks′ d) where
+        pub head-attribute-fails : Fails (d .end) → (tag : Tag) → tag ≡ failedTag (d .end) → HeadSays may s at old t tag
+        unfolding head-ready
         head-attribute-fails f tag q = let a = i-far in let b = some-glue in
-            head-fails may s at old t′ f (pass f (x .says may (w .st) glue (w .names)) 1 at (omega arith) (onward (loopP (turnP may))) at-attribute) (x .long ∙ table-long w) tag q
+            head-fails may s at old t f (pass f (x .says head-ready may (w .st) glue refl) 1 at (omega arith) (onward (loopP (turnP may))) at-attribute) (w .table-long) tag q
 
-        pub head-next : {v : ℕ} → r ≡ Done v → InHead may s at old t′ (n + 1) v
-        head-next {v} q = go (x .at-done v q)
-          where
-            go : AttributeTo s t t′ n j v → InHead may s at old t′ (n + 1) v
-            go y =
-                let a : Attribute = record { before = glue; name = take (y .nameTo - j) (drop j s); mid = y .mid; after = y .after; quote = y .quote; value = y .value } in
-                let h₁ = i-far in
-                let h₂ = some-glue in
-                let h₃ = y .name-some in
-                let h₄ = y .value-from in
-                let h₅ = y .value-to in
-                let h₆ = y .far in
-                let h₇ = y .upto in
-                let h₈ = head-ready .room in
-                let p₀ = glue-size in
-                let p₁ : nameAt i a ≡ j = omega arith in
-                let p₂ : length (take (y .nameTo - j) (drop j s)) ≡ y .nameTo - j = rw (length-take, length-drop) (omega arith) in
-                let p₃ : nameEnd i a ≡ y .nameTo = omega arith in
-                let p₄ : valueAt i a ≡ y .valueFrom = omega arith in
-                let p₅ : valueEnd i a ≡ y .valueTo = omega arith in
-                let l : length old ≡ 128 = w .old-long in
-                let m : 4 * n + 3 < length t = omega (arith, w .table .long) in
-                let z : t′ ≡ stored (places at (w .read) ++ drop (4 * n) old) n (nameAt i a) (nameEnd i a) (valueAt i a) (valueEnd i a) = y .table ∙ same-row n (w .places-are) (sym p₁) (sym p₃) (sym p₄) (sym p₅) in
-                record {
-                  st = record { seen = take (y .nameTo - j) (drop j s) ∷ w .st .seen; build = λ l. w .st .build (a ∷ l) };
-                  read = w .read ++ a ∷ [];
-                  from = next-place a p₅;
-                  upto = h₇;
-                  size = length-append (w .read) (a ∷ []) ∙ rw (w .size);
-                  built = λ l. w .built (a ∷ l) ∙ sym (append-assoc (w .read) (a ∷ []) l);
-                  names = ap (λ (l : List Bytes). take (y .nameTo - j) (drop j s) ∷ l) (w .names) ∙ rw (y .table, add-one) (sym (names-stored s t n j (y .nameTo) (y .valueFrom) (y .valueTo) m));
-                  table = rw (y .table) (table-stored s t n j (y .nameTo) (y .valueFrom) (y .valueTo) m (w .table) h₈ (omega arith) (omega arith));
-                  old-long = l;
-                  places-are = z ∙ places-stored at (w .read) a n old (w .size) (omega arith) i (w .from);
-                  same = at-attribute ∙ then-done _ (y .reads may (w .st) glue (w .names));
-                }
-              where
-                next-place : (a : Attribute) → valueEnd i a ≡ y .valueTo → at + length (spellAttributes (w .read ++ a ∷ [])) ≡ v
-                next-place a p = let b = spell-append (w .read) a in let c = attribute-size i a in let d = w .from in let f = y .far in omega arith
+        module _ (v : ℕ) (q : d .end ≡ Done v) where
+          y : AttributeTo s (w .st .seen) j (d .past) (d .value) v
+          unfolding head-ready
+          y = x .at-done head-ready v q
+
+          -- the order of the places
+          pub head-order : (at ≤ j) × (j ≤ v - 1) × (j < d .past) × (d .past ≤ v - 1) × (d .value ≤ v - 1) × (i < v) × (v ≤ length s) × (n < ATTRIBUTES) × (at ≤ d .value)
+          head-order =
+              let a = i-far in let b = some-glue in let c = y .name-some in let f = y .value-from in let k = y .value-to in let l = y .upto in let m = few in
+              (omega arith, omega arith, omega arith, omega arith, omega arith, omega arith, omega arith, m, omega arith)
+
+          a : Attribute
+          a = record { before = glue; name = take (d .past - j) (drop j s); mid = y .mid; after = y .after; quote = y .quote; value = y .value }
+
+          -- its places, counted from `at`
+          record Counted : Type 0 where
+            name : nameAt (i - at) a ≡ j - at
+            past : nameEnd (i - at) a ≡ d .past - at
+            value : valueAt (i - at) a ≡ d .value - at
+            end : valueEnd (i - at) a ≡ v - 1 - at
+
+          counted : Counted
+          unfolding a
+          counted =
+              let h₁ = i-far in
+              let h₂ = some-glue in
+              let h₃ = y .name-some in
+              let h₄ = y .value-from in
+              let h₅ = y .value-to in
+              let h₇ = y .upto in
+              let p₀ = glue-size in
+              let p₂ : length (take (d .past - j) (drop j s)) ≡ d .past - j = rw (length-take, length-drop) (omega arith) in
+              record { name = omega arith; past = omega arith; value = omega arith; end = omega arith }
+
+          next-place : at + length (spellAttributes (w .read ++ a ∷ [])) ≡ v
+          next-place = let b = spell-append (w .read) a in let c = attribute-size (i - at) a in let f = w .from in let k = counted .end in let l = i-far in let m = y .value-to in let o = y .value-from in omega arith
+
+          at-turn : headP may (drop at s) ≡ loopP (turnP may) (record { seen = take (d .past - j) (drop j s) ∷ w .st .seen; build = λ l. w .st .build (a ∷ l) }) (drop v s)
+          unfolding a
+          at-turn = at-attribute ∙ then-done _ (y .reads may (w .st) glue refl)
+
+          pub head-next : (t′ : List ℕ) → PutRow t t′ n (j - at) (d .past - at) (d .value - at) (v - 1 - at) → InHead may s at old t′ marks′ (n + 1) v
+          unfolding head-ready
+          head-next t′ p = record {
+            st = record { seen = take (d .past - j) (drop j s) ∷ w .st .seen; build = λ l. w .st .build (a ∷ l) };
+            read = w .read ++ a ∷ [];
+            from = next-place;
+            upto = y .upto;
+            size = length-append (w .read) (a ∷ []) ∙ rw (w .size);
+            built = λ l. w .built (a ∷ l) ∙ sym (append-assoc (w .read) (a ∷ []) l);
+            names = ap suc (w .names) ∙ sym (add-one n);
+            rows = rows-more (w .rows) (y .one i (let b = g .says .0 in omega arith) (glue-read g));
+            marked = x .marked head-ready v q;
+            marks-long = x .long ∙ w .marks-long;
+            room = let m = few in omega arith;
+            table-long = p .long ∙ w .table-long;
+            places-are = noted;
+            same = at-turn;
+          }
+            where
+              noted : Lent s at old → t′ ≡ places 0 (w .read ++ a ∷ []) ++ drop (4 * (n + 1)) old
+              noted k =
+                  let b = few in
+                  let l : 4 * n + 3 < length t = omega (arith, w .table-long, k .whole) in
+                  let m : v - 1 - at < 65_536 = omega (arith, k .short, y .upto, y .value-to, i-far) in
+                  let o : 0 + length (spellAttributes (w .read)) ≡ i - at = let z = w .from in omega arith in
+                  let r : stored t n (j - at) (d .past - at) (d .value - at) (v - 1 - at) ≡ stored (places 0 (w .read) ++ drop (4 * n) old) n (nameAt (i - at) a) (nameEnd (i - at) a) (valueAt (i - at) a) (valueEnd (i - at) a)
+                        = same-row n (w .places-are k) (sym (counted .name)) (sym (counted .past)) (sym (counted .value)) (sym (counted .end)) in
+                  p .row l m ∙ r ∙ places-stored 0 (w .read) a n old (w .size) (omega (arith, k .whole)) (i - at) o

@@ -4,8 +4,11 @@ pub mod CharacterLaws
 pub mod NumeralLaws
 pub mod ReferenceLaws
 pub mod ValueLaws
+pub mod CompareLaws
+pub mod MarkLaws
+pub mod WalkLaws
+pub mod QuoteLaws
 pub mod NameLaws
-pub mod TableLaws
 pub mod AttributeLaws
 pub mod PlaceLaws
 pub mod HeadLaws

@@ -1,16 +1,16 @@
 -- The steps of a name that is not among given ones.
-use mathlib.Core.Path.{_≡_, refl, sym, subst, _∙_}
+use mathlib.Core.Path.{_≡_, refl, sym, ap, subst, _∙_}
 use mathlib.Core.List.{List, [], _∷_, _++_, append-assoc, append-nil}
-use mathlib.Core.Logic.{inl, inr}
-use mathlib.Core.Bool.{Bool, true, false}
-use Prim.Native.Nat.{ℕ, suc, _+_, _-_, _≤_, _<_}
+use mathlib.Core.Logic.{_⊎_, inl, inr}
+use mathlib.Core.Bool.{Bool, true, false, _&&_, _||_}
+use Prim.Native.Nat.{ℕ, zero, suc, _+_, _-_, _≤_, _<_}
 use native.Mathlib.Omega.{arith}
 use native.Mathlib.Numerals.{add-one}
 use lib.ListN.{length, length-append, take, drop, getD, drop-of-length-le}
 use lib.Seq.{drop-cons, take-at}
-use lib.Dec.{eqb, leb}
-use borrow.Author.Tests.{leb-true, leb-false, lt-leb}
-use Rattle.model.specs.Tests.{and-left, and-right, and-both, and-false, every-left, every-append}
+use lib.Dec.{eqb, leb, ltb}
+use borrow.Author.Tests.{leb-true, leb-false, le-leb, lt-leb}
+use Rattle.model.specs.Tests.{and-left, and-right, and-both, and-false, or-left, every-left, every-append}
 use Rattle.model.specs.Names.{glue-not-name, live, new, of-live, live-shut}
 use Rattle.model.specs.Attributes.{State, equalsP, attrP}
 use Rattle.exact.specs.Exact.{Out, bad, Reader}
@@ -21,7 +21,8 @@ use Rattle.exact.specs.Limit.{split}
 use Rattle.grammar.specs.Bytes.{Bytes, within, digit, every, nonEmpty, among, fits}
 use Rattle.grammar.specs.Glue.{isGlue}
 use Rattle.grammar.specs.Name.{letter, nameStart, nameByte, shaped}
-use Rattle.tags.specs.Names.{Part, Run, Fresh}
+use Rattle.tags.specs.Names.{Part, Run, Named, Marked, Ready, Meets, NameTo, Fresh, FreshSays}
+use Rattle.tags.proofs.CompareLaws.{part-at, every-at}
 use Rattle.scan.specs.declared.Step.{Step}
 use Rattle.scan.specs.declared.Step.the-variants.{Done, Open, Bad}
 
@@ -54,6 +55,33 @@ part-more s at i w h k f =
       shape = shape-grow (w .name) (getD s i 0) (omega arith) (w .shape) f;
       split = e;
     }
+
+pub part-many : (s : Bytes) (at n i : ℕ) → Part s at i → i + n ≤ length s → i + n ≤ at + 63 → Named s i n → Part s at (i + n)
+part-many s at zero i w h k p = subst (λ (x : ℕ). Part s at x) (omega arith) w
+part-many s at (suc n) i w h k p =
+    let z : i + 0 ≡ i = omega arith in
+    let y = w .from in
+    let f : nameByte (getD s i 0) ≡ true = rw z at (p 0 (omega arith)) in
+    subst (λ (x : ℕ). Part s at x) (omega arith) (part-many s at n (i + 1) (part-more s at i w (omega arith) (omega arith) f) (omega arith) (omega arith) (λ j l. let e : i + suc j ≡ i + 1 + j = omega arith in rw e at (p (suc j) (omega arith))))
+
+shaped-every : (n : Bytes) → shaped n ≡ true → every nameByte n ≡ true
+unfolding nameByte
+shaped-every [] h = refl
+shaped-every (b ∷ n) h = and-both (nameByte b) (every nameByte n) (or-left (nameStart b) _ (and-left (nameStart b) (every nameByte n) h)) (and-right (nameStart b) (every nameByte n) h)
+
+part-named : (s : Bytes) (at i : ℕ) → Part s at i → Named s at (i - at)
+part-named s at i w k l =
+    let a = w .size in
+    let b : nameByte (getD (w .name) k 0) ≡ true = every-at nameByte (w .name) k (shaped-every (w .name) (w .shape)) (omega arith) in
+    sym (ap nameByte (ap (λ (y : Bytes). getD y k 0) (w .is) ∙ part-at s at (i - at) k l)) ∙ b
+
+-- what is a name up to i, and at i too
+named-more : (s : Bytes) (at i : ℕ) → at ≤ i → Named s at (i - at) → nameByte (getD s i 0) ≡ true → Named s at (i + 1 - at)
+named-more s at i h w f k l = go (leb (suc k) (i - at)) refl
+  where
+    go : (z : Bool) → leb (suc k) (i - at) ≡ z → nameByte (getD s (at + k) 0) ≡ true
+    go true e = w k (leb-true (suc k) (i - at) e)
+    go false e = let m = leb-false (suc k) (i - at) e in let z : at + k ≡ i = omega arith in ap (λ (j : ℕ). nameByte (getD s j 0)) z ∙ f
 
 -- while there is room, the names seen do not matter
 pub run-on : {A : Type 0} (earlier : List Bytes) (q : Bytes → Reader A) (n m x : Bytes) → shaped (n ++ m) ≡ true → length (n ++ m) ≤ 63 → tokenP (live earlier) (new earlier) q n (m ++ x) ≡ tokenP (live earlier) (new earlier) q (n ++ m) x
@@ -123,19 +151,19 @@ module _ (earlier : List Bytes) (s : Bytes) (at i : ℕ) (w : Run s at i) where
   name-at : (may : Bool) (st : State) (g : Bytes) → st .seen ≡ earlier → attrP may st g (drop at s) ≡ tokenP (live earlier) (new earlier) (equalsP may st g) (w .part .name) (drop i s)
   name-at may st g e = subst (λ (l : List Bytes). attrP may st g (drop at s) ≡ tokenP (live l) (new l) (equalsP may st g) (w .part .name) (drop i s)) e (name-at-own may st g)
 
-  pub fresh-end : length s ≤ i → Fresh s earlier at Open
+  fresh-end : length s ≤ i → Fresh s earlier at Open
   fresh-end h = record { says = λ may st g e. name-at may st g e ∙ rw (drop-of-length-le s h) }
 
   module _ (h : i < length s) where
-    pub fresh-again : nameByte (getD s i 0) ≡ false → among earlier (take (i - at) (drop at s)) ≡ true → Fresh s earlier at (Bad i)
+    fresh-again : nameByte (getD s i 0) ≡ false → among earlier (take (i - at) (drop at s)) ≡ true → Fresh s earlier at (Bad i)
     fresh-again f a = let x = w .part .from in
         let n : new earlier (w .part .name) ≡ false = new-no earlier (w .part .name) (rw (w .part .is) a) in
         record { says = record { from = omega arith; inside = h; reads = λ may st g e. name-at may st g e ∙ rw (drop-cons s i 0 h, live-shut earlier (w .part .name) (getD s i 0) f, n) } }
 
-    pub fresh-done : nameByte (getD s i 0) ≡ false → among earlier (take (i - at) (drop at s)) ≡ false → Fresh s earlier at (Done i)
+    fresh-done : nameByte (getD s i 0) ≡ false → among earlier (take (i - at) (drop at s)) ≡ false → Fresh s earlier at (Done i)
     fresh-done f a = let x = w .part .from in let y = w .part .size in
         let n : new earlier (w .part .name) ≡ true = new-yes earlier (w .part .name) (omega arith) (rw (w .part .is) a) in
-        record { says = record { far = x; upto = w .part .upto; reads = λ may st g e. name-at may st g e ∙ rw (← w .part .is, drop-cons s i 0 h, live-shut earlier (w .part .name) (getD s i 0) f, n) } }
+        record { says = record { far = x; upto = h; named = part-named s at i (w .part); ends = f; reads = λ may st g e. name-at may st g e ∙ rw (← w .part .is, drop-cons s i 0 h, live-shut earlier (w .part .name) (getD s i 0) f, n) } }
 
     module _ (f : nameByte (getD s i 0) ≡ true) where
       name2 : Bytes
@@ -152,7 +180,7 @@ module _ (earlier : List Bytes) (s : Bytes) (at i : ℕ) (w : Run s at i) where
           let e : drop at s ≡ (w .part .name ++ getD s i 0 ∷ []) ++ drop (i + 1) s = w .part .split ∙ rw (add-one, append-assoc, drop-cons s i 0 h) in
           rw e (part-is (w .part .name ++ getD s i 0 ∷ []) (drop (i + 1) s) (i + 1 - at) l)
 
-      pub fresh-full : among earlier (take (i + 1 - at) (drop at s)) ≡ true → Fresh s earlier at (Bad i)
+      fresh-full : among earlier (take (i + 1 - at) (drop at s)) ≡ true → Fresh s earlier at (Bad i)
       unfolding name2
       fresh-full a = let x = w .part .from in
           let l : live earlier (w .part .name ++ getD s i 0 ∷ []) ≡ false = live-no earlier name2 (let z = long2 in omega arith) (rw is2 a) in
@@ -171,7 +199,7 @@ module _ (earlier : List Bytes) (s : Bytes) (at i : ℕ) (w : Run s at i) where
             let l : live earlier (w .part .name ++ getD s i 0 ∷ []) ≡ true = of-live earlier (w .part .name ++ getD s i 0 ∷ []) (record { shape = shape-grow (w .part .name) (getD s i 0) (omega arith) (w .part .shape) f; fits = let z = long2 in omega arith; room = inr (rw is2 a) }) in
             name-at may st g e ∙ rw (add-one, drop-cons s i 0 h, l)
 
-        pub fresh-full-end : length s - i < 2 → Fresh s earlier at Open
+        fresh-full-end : length s - i < 2 → Fresh s earlier at Open
         fresh-full-end k = let j : length s ≤ i + 1 = omega arith in record { says = λ may st g e. name-full-at may st g e ∙ rw (drop-of-length-le s j) }
 
         module _ (k : 2 ≤ length s - i) where
@@ -183,9 +211,89 @@ module _ (earlier : List Bytes) (s : Bytes) (at i : ℕ) (w : Run s at i) where
               let l : live earlier (name2 ++ getD s (i + 1) 0 ∷ []) ≡ false = live-long earlier (name2 ++ getD s (i + 1) 0 ∷ []) (rw length-append (omega arith)) in
               name-full-at may st g e ∙ rw (← is2, drop-cons s (i + 1) 0 j, l, n)
 
-          pub fresh-long : nameByte (getD s (i + 1) 0) ≡ true → Fresh s earlier at (Bad (i + 1))
+          fresh-long : nameByte (getD s (i + 1) 0) ≡ true → Fresh s earlier at (Bad (i + 1))
           fresh-long u = let x = w .part .from in let j : i + 1 < length s = omega arith in
               record { says = record { from = omega arith; inside = j; reads = λ may st g e. last-at may st g e ∙ rw (drop-cons s (i + 1) 0 j) (equals-bad may st g (take (i + 1 - at) (drop at s)) (getD s (i + 1) 0) (drop (suc (i + 1)) s) u) } }
 
-          pub fresh-last : nameByte (getD s (i + 1) 0) ≡ false → Fresh s earlier at (Done (i + 1))
-          fresh-last u = let x = w .part .from in record { says = record { far = omega arith; upto = omega arith; reads = λ may st g e. last-at may st g e } }
+          fresh-last : nameByte (getD s (i + 1) 0) ≡ false → Fresh s earlier at (Done (i + 1))
+          fresh-last u = let x = w .part .from in
+              record { says = record { far = omega arith; upto = omega arith; named = named-more s at i (omega arith) (part-named s at i (w .part)) f; ends = u; reads = λ may st g e. last-at may st g e } }
+
+-- the name that runs up to i, as a whole
+module _ (s : Bytes) (first at i to : ℕ) (w : Run s at i) (h : i < length s) (t : NameTo s i to) where
+  pub name-whole : (at < to) × (to ≤ length s) × Named s at (to - at)
+  name-whole = go t
+    where
+      go : NameTo s i to → (at < to) × (to ≤ length s) × Named s at (to - at)
+      go (inl (e, f)) = let x = w .part .from in (omega arith, omega arith, subst (λ (m : ℕ). Named s at (m - at)) (sym e) (part-named s at i (w .part)))
+      go (inr (e, f)) = let x = w .part .from in (omega arith, omega arith, subst (λ (m : ℕ). Named s at (m - at)) (sym e) (named-more s at i (omega arith) (part-named s at i (w .part)) f))
+
+  fresh-met : (earlier : List Bytes) → among earlier (take (to - at) (drop at s)) ≡ true → Fresh s earlier at (Bad i)
+  fresh-met earlier a = go t
+    where
+      go : NameTo s i to → Fresh s earlier at (Bad i)
+      go (inl (e, f)) = fresh-again earlier s at i w h f (subst (λ (m : ℕ). among earlier (take (m - at) (drop at s)) ≡ true) e a)
+      go (inr (e, f)) = fresh-full earlier s at i w h f (subst (λ (m : ℕ). among earlier (take (m - at) (drop at s)) ≡ true) e a)
+
+  module _ (marks marks′ : List ℕ) where
+    pub says-met : {r : Bool} → Meets s first at to marks marks′ r → r ≡ true → FreshSays s first at marks marks′ (Bad i)
+    says-met m q = record { says = λ r. fresh-met (r .stood .names) (sym (m .says r) ∙ q); marked = λ r e z. absurd (let y : _≡_ {A = ℕ} 0 1 = cc in omega arith); long = m .long }
+
+    module _ {r : Bool} (m : Meets s first at to marks marks′ r) (q : r ≡ false) where
+      unseen : (d : Ready s first marks at) (n : ℕ) → to ≡ n → among (d .stood .names) (take (n - at) (drop at s)) ≡ false
+      unseen d n e = subst (λ (j : ℕ). among (d .stood .names) (take (j - at) (drop at s)) ≡ false) e (sym (m .says d) ∙ q)
+
+      marked-to : (d : Ready s first marks at) (n : ℕ) → to ≡ n → (e : ℕ) → Done n ≡ Done e → Marked marks′ (take (e - at) (drop at s) ∷ d .stood .names)
+      marked-to d n z e u = let v : n ≡ e = cc in subst (λ (j : ℕ). Marked marks′ (take (j - at) (drop at s) ∷ d .stood .names)) (z ∙ v) (m .marked d)
+
+      pub says-short : to ≡ i → FreshSays s first at marks marks′ (Done i)
+      says-short z = record { says = λ d. go d t; marked = λ d e u. marked-to d i z e u; long = m .long }
+        where
+          go : (d : Ready s first marks at) → NameTo s i to → Fresh s (d .stood .names) at (Done i)
+          go d (inl (e, f)) = fresh-done (d .stood .names) s at i w h f (unseen d i z)
+          go d (inr (e, f)) = absurd (omega (arith, z, e))
+
+      module _ (z : to ≡ i → ⊥) where
+        is-full : (to ≡ i + 1) × (nameByte (getD s i 0) ≡ true)
+        is-full = go t
+          where
+            go : NameTo s i to → (to ≡ i + 1) × (nameByte (getD s i 0) ≡ true)
+            go (inl (e, f)) = absurd (z e)
+            go (inr x) = x
+
+        pub says-full-end : length s - i < 2 → FreshSays s first at marks marks′ Open
+        says-full-end k =
+            record { says = λ d. fresh-full-end (d .stood .names) s at i w h (is-full .1) (unseen d (i + 1) (is-full .0)) k; marked = λ d e u. absurd (let y : _≡_ {A = ℕ} 0 1 = cc in omega arith); long = m .long }
+
+        module _ (k : 2 ≤ length s - i) where
+          pub says-long : nameByte (getD s (i + 1) 0) ≡ true → FreshSays s first at marks marks′ (Bad (i + 1))
+          says-long f =
+              record { says = λ d. fresh-long (d .stood .names) s at i w h (is-full .1) (unseen d (i + 1) (is-full .0)) k f; marked = λ d e u. absurd (let y : _≡_ {A = ℕ} 0 1 = cc in omega arith); long = m .long }
+
+          pub says-last : nameByte (getD s (i + 1) 0) ≡ false → FreshSays s first at marks marks′ (Done (i + 1))
+          says-last f =
+              record { says = λ d. fresh-last (d .stood .names) s at i w h (is-full .1) (unseen d (i + 1) (is-full .0)) k f; marked = λ d e u. marked-to d (i + 1) (is-full .0) e u; long = m .long }
+
+pub says-end : (s : Bytes) (first at i : ℕ) (marks : List ℕ) → Run s at i → length s ≤ i → FreshSays s first at marks marks Open
+says-end s first at i marks w h = record { says = λ d. fresh-end (d .stood .names) s at i w h; marked = λ d e u. absurd (let y : _≡_ {A = ℕ} 0 1 = cc in omega arith); long = refl }
+
+pub small-test : (b : ℕ) → ltb 96 b && ltb b 123 ≡ true → nameByte b ≡ true
+unfolding nameByte nameStart letter within
+small-test b k =
+    let x = leb-true 97 b (and-left (ltb 96 b) (ltb b 123) k) in
+    let y = leb-true (suc b) 123 (and-right (ltb 96 b) (ltb b 123) k) in
+    rw (le-leb 65 b (omega arith), lt-leb b 90 (omega arith), le-leb 97 b x, le-leb b 122 (omega arith))
+
+large-test : (b : ℕ) → ltb 64 b && ltb b 91 ≡ true → nameByte b ≡ true
+unfolding nameByte nameStart letter within
+large-test b k =
+    let x = leb-true 65 b (and-left (ltb 64 b) (ltb b 91) k) in
+    let y = leb-true (suc b) 91 (and-right (ltb 64 b) (ltb b 91) k) in
+    rw (le-leb 65 b x, le-leb b 90 (omega arith))
+
+pub letter-test : (b : ℕ) → (ltb 64 b && ltb b 91) || (ltb 96 b && ltb b 123) ≡ true → nameByte b ≡ true
+letter-test b h = go (ltb 64 b && ltb b 91) refl h
+  where
+    go : (z : Bool) → ltb 64 b && ltb b 91 ≡ z → z || (ltb 96 b && ltb b 123) ≡ true → nameByte b ≡ true
+    go true e k = large-test b e
+    go false e k = small-test b k

@@ -3,7 +3,7 @@ use mathlib.Core.Path.{_≡_, refl, sym, ap, _∙_}
 use mathlib.Core.List.{List, [], _∷_, _++_, append-assoc, append-nil}
 use Prim.Native.Nat.{ℕ, _+_, _*_, _≤_}
 use native.Mathlib.Omega.{arith}
-use lib.ListN.{length, length-append, drop, length-drop, set}
+use lib.ListN.{length, length-append, drop, length-drop, set, length-set}
 use lib.Seq.{set-at, drop-drop}
 use Rattle.model.specs.References.{later}
 use Rattle.grammar.specs.Attribute.{Attribute, spellAttribute, spellAttributes}
@@ -27,6 +27,10 @@ stored-here p (w ∷ x ∷ y ∷ z ∷ r) n a b c d e h =
     later q y ys v k f =
         let g : length (p ++ q) ≡ 4 * n + k = length-append p q ∙ rw (e, f) in
         rw (← append-assoc p q (y ∷ ys), ← append-assoc p q (v ∷ ys)) (set-at (p ++ q) y ys v (4 * n + k) g)
+
+pub stored-long : (t : List ℕ) (n a b c d : ℕ) → length (stored t n a b c d) ≡ length t
+unfolding stored
+stored-long t n a b c d = simp length-set
 
 -- equal numbers make equal rows
 pub same-row : {t t′ : List ℕ} (n : ℕ) {a a′ b b′ c c′ d d′ : ℕ} → t ≡ t′ → a ≡ a′ → b ≡ b′ → c ≡ c′ → d ≡ d′ → stored t n a b c d ≡ stored t′ n a′ b′ c′ d′

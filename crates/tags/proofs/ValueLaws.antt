@@ -172,3 +172,7 @@ eight-sum P i a b c d e f g h f0 f1 f2 f3 f4 f5 f6 f7 z =
 pub clear-number : (b q : ℕ) (z : Bool) → (z ≡ true → plainByte (banned q) b ≡ true) → (boolByte z ≤ 1) × (boolByte z ≡ 1 → plainByte (banned q) b ≡ true)
 clear-number b q true f = (omega arith, λ e. f refl)
 clear-number b q false f = (omega arith, λ e. absurd (omega arith))
+
+pub test-number : (P : Type 0) (z : Bool) → (z ≡ true → P) → (boolByte z ≤ 1) × (boolByte z ≡ 1 → P)
+test-number P true f = (omega arith, λ e. f refl)
+test-number P false f = (omega arith, λ e. absurd (omega arith))

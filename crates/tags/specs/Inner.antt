@@ -1,24 +1,24 @@
 -- What the answers of the readers of an attribute and of a tag's end say.
 use mathlib.Core.Path.{_≡_}
-use mathlib.Core.List.{List}
+use mathlib.Core.List.{List, _∷_}
 use mathlib.Core.Bool.{Bool, true, false}
-use Prim.Native.Nat.{ℕ, _+_, _-_, _≤_, _<_}
+use Prim.Native.Nat.{ℕ, _+_, _-_, _*_, _≤_, _<_}
 use Prim.Native.Char.{code}
 use lib.ListN.{length, take, drop, getD}
 use Rattle.exact.specs.Exact.{done, more, bad, Reader}
 use Rattle.exact.specs.Chain.{retP}
 use Rattle.exact.specs.Byte.{onP}
-use Rattle.grammar.specs.Bytes.{Bytes}
-use Rattle.grammar.specs.Limits.{ATTRIBUTES}
-use Rattle.grammar.specs.Name.{nameStart}
+use Rattle.grammar.specs.Bytes.{Bytes, every}
+use Rattle.grammar.specs.Glue.{isGlue}
 use Rattle.grammar.specs.Value.{Item, spellValue, isQuote}
 use Rattle.model.specs.Attributes.{State, mk, fin, endP, attrP}
 use Rattle.scan.specs.Pieces.{Got, byteP, glueTok, chained}
 use Rattle.scan.specs.declared.Step.{Step}
 use Rattle.scan.specs.declared.Step.the-variants.{Done, Open, Bad}
 use Rattle.tags.specs.Places.{stored}
-use Rattle.tags.specs.Names.{namesOf, Table}
+use Rattle.tags.specs.Names.{Lacks, One, Marked, Ready}
 use Rattle.tags.specs.Heads.{Nothing}
+use Rattle.tags.specs.declared.attributes.Given.{Given}
 use Rattle.tags.specs.declared.attributes.Tag.{Tag}
 
 -- behind an attribute's name: glue, `=`, glue and the opening quote
@@ -37,41 +37,40 @@ pub record OpenedTo (s : Bytes) (at v : ℕ) : Type 0 where
   pub upto : v ≤ length s
   pub is-quote : isQuote (opening .quote) ≡ true
   pub quote : opening .quote ≡ getD s (v - 1) 0
+  pub unopened : Lacks 34 39 s at (v - 1 - at)
   pub reads : openP (drop at s) ≡ done opening (drop v s)
 
 pub record Opened (s : Bytes) (at : ℕ) (r : Step) : Type 0 where
   pub says : Got 2 s at r (openP (drop at s))
   pub at-done : (v : ℕ) → r ≡ Done v → OpenedTo s at v
 
--- a name starts at `at`, and the table has room for an attribute more
-pub record Ready (s : Bytes) (t : List ℕ) (n at : ℕ) : Type 0 where
-  pub table : Table s t n
-  pub room : n < ATTRIBUTES
-  pub inside : at < length s
-  pub starts : nameStart (getD s at 0) ≡ true
-
--- an attribute was read from its name at `at` up to e, whatever stands before it, and its places are stored
-pub record AttributeTo (s : Bytes) (t t′ : List ℕ) (n at e : ℕ) : Type 0 where
+-- an attribute was read from its name at `at` up to e, whatever stands before it; the name ends at `past`, and the raw value stands from `from` on
+pub record AttributeTo (s : Bytes) (names : List Bytes) (at past from e : ℕ) : Type 0 where
   pub mid : Bytes
   pub after : Bytes
   pub quote : ℕ
   pub value : List Item
-  pub nameTo : ℕ
-  pub valueFrom : ℕ
-  pub valueTo : ℕ
-  pub name-some : at + 1 ≤ nameTo
-  pub value-from : nameTo + length mid + 1 + length after + 1 ≡ valueFrom
-  pub value-to : valueFrom + length (spellValue value) ≡ valueTo
-  pub far : valueTo + 1 ≡ e
+  pub name-some : at + 1 ≤ past
+  pub value-from : past + length mid + 1 + length after + 1 ≡ from
+  pub value-to : from + length (spellValue value) + 1 ≡ e
   pub upto : e ≤ length s
-  pub table : t′ ≡ stored t n at nameTo valueFrom valueTo
-  pub reads : (may : Bool) (st : State) (g : Bytes) → st .seen ≡ namesOf s t n
-      → attrP may st g (drop at s) ≡ done (mk st g (take (nameTo - at) (drop at s)) mid after quote value) (drop e s)
+  pub one : (i : ℕ) → i ≤ at → every isGlue (take (at - i) (drop i s)) ≡ true → One s i e (take (past - at) (drop at s))
+  pub reads : (may : Bool) (st : State) (g : Bytes) → st .seen ≡ names → attrP may st g (drop at s) ≡ done (mk st g (take (past - at) (drop at s)) mid after quote value) (drop e s)
 
-pub record AttributeSays (s : Bytes) (t t′ : List ℕ) (n at : ℕ) (r : Step) : Type 0 where
-  pub says : (may : Bool) (st : State) (g : Bytes) → st .seen ≡ namesOf s t n → Got 1 s at r (attrP may st g (drop at s))
-  pub at-done : (e : ℕ) → r ≡ Done e → AttributeTo s t t′ n at e
+pub record AttributeSays (s : Bytes) (first at : ℕ) (marks marks′ : List ℕ) (r : Given) : Type 0 where
+  pub says : (h : Ready s first marks at) (may : Bool) (st : State) (g : Bytes) → st .seen ≡ h .stood .names → Got 1 s at (r .end) (attrP may st g (drop at s))
+  pub at-done : (h : Ready s first marks at) (e : ℕ) → r .end ≡ Done e → AttributeTo s (h .stood .names) at (r .past) (r .value) e
+  pub marked : (h : Ready s first marks at) (e : ℕ) → r .end ≡ Done e → Marked marks′ (take (r .past - at) (drop at s) ∷ h .stood .names)
+  pub long : length marks′ ≡ length marks
+
+-- an attribute that is not read
+abbrev pub lostGiven : Step → Given
+lostGiven r = record { past = 0; value = 0; end = r }
+
+-- four numbers put into the row n of a table, if it reaches so far and they are small enough
+pub record PutRow (t t′ : List ℕ) (n a b c d : ℕ) : Type 0 where
   pub long : length t′ ≡ length t
+  pub row : 4 * n + 3 < length t → d < 65_536 → t′ ≡ stored t n a b c d
 
 -- the end of a tag, whatever stands before it
 pub record EndRead (may : Bool) (s : Bytes) (at : ℕ) (empty : Bool) (e : ℕ) : Type 0 where

@@ -1,16 +1,15 @@
 // Attributes: what stands in a start tag behind its name, up to `>` or `/>`.
-// The places of each attribute are kept in a table that the caller lends: it says which names were there.
+// A new name is compared with the earlier ones where they stand. The places of the attributes are put into a table where one is lent.
 ghost use mathlib.Core.Path.{_≡_};
-ghost use mathlib.Core.Bool.{true, _&&_};
+ghost use mathlib.Core.Bool.{true, _&&_, not};
 ghost use Prim.Native.Nat.{_+_, _-_, _*_, _≤_, _<_};
 ghost use lib.ListN.{length, take, drop, getD};
 ghost use lib.Dec.{leb};
-ghost use Rattle.grammar.specs.Bytes.{same, among};
+ghost use Rattle.grammar.specs.Bytes.{same};
 ghost use Rattle.grammar.specs.Limits.{NAME, ATTRIBUTES};
-ghost use Rattle.grammar.specs.Name.{nameStart};
-ghost use Rattle.tags.specs.Places.{stored};
-ghost use Rattle.tags.specs.Names.{namesOf, Table, Run, Fresh};
-ghost use Rattle.tags.specs.Inner.{Opened, Ready, AttributeSays, EndSays, failedTag};
+ghost use Rattle.grammar.specs.Name.{nameStart, nameByte};
+ghost use Rattle.tags.specs.Names.{Part, Run, Agree, Named, Lacks, Found, Stood, Repeats, markOf, Ready, Meets, NameTo, FreshSays};
+ghost use Rattle.tags.specs.Inner.{Opened, AttributeSays, lostGiven, PutRow, EndSays, failedTag};
 ghost use Rattle.tags.specs.Heads.{HeadSays};
 use crate::values::is_quote;
 use crate::values::value;
@@ -20,8 +19,8 @@ use scan::Step;
 /// How many numbers a tag's table of places has: four for each attribute that it may have.
 pub const PLACES: usize = 4 * Limits::ATTRIBUTES;
 
-/// Where the attributes of a tag stand: from where to where its name, and its raw value.
-pub type Places = [usize; PLACES];
+/// Where the attributes of a tag stand, counted from the place behind the tag's name: from where to where its name, and its raw value.
+pub type Places = [u16; PLACES];
 
 /// A tag behind its name: whether it is an empty one, how many attributes it has, and where it ends.
 pub struct Tag {
@@ -30,15 +29,51 @@ pub struct Tag {
     pub end: Step,
 }
 
-// Whether the n bytes at a and the m bytes at b are the same.
-fn alike(s: &[u8], a: usize, n: usize, b: usize, m: usize) -> bool
-    requires { ⌜ (a + n ≤ length (now s)) × (b + m ≤ length (now s)) ⌝ }
-    ensures { λ r. ⌜ r ≡ same (take n (drop a (now (s .entry)))) (take m (drop b (now (s .entry)))) ⌝ }
+// 1 if the bytes are the same, else 0.
+fn equal(a: u8, b: u8) -> u8
+    ensures small { λ r. ⌜ r ≤ 1 ⌝ }
+    ensures one { λ r. ⌜ (r ≡ 1 → a ≡ b) ⌝ }
 {
-    if n != m {
-        return false;
-    }
+    (a == b) as u8
+}
+
+// Whether the eight bytes at a and at b are the same.
+fn eight_equal(s: &[u8], a: usize, b: usize) -> bool
+    requires { ⌜ (a + 8 ≤ length (now s)) × (b + 8 ≤ length (now s)) ⌝ }
+    ensures { λ r. ⌜ (r ≡ true → Agree (now (s .entry)) a b 8) ⌝ }
+{
+    let n = equal(s[a], s[b])
+        + equal(s[a + 1], s[b + 1])
+        + equal(s[a + 2], s[b + 2])
+        + equal(s[a + 3], s[b + 3])
+        + equal(s[a + 4], s[b + 4])
+        + equal(s[a + 5], s[b + 5])
+        + equal(s[a + 6], s[b + 6])
+        + equal(s[a + 7], s[b + 7]);
+    n == 8
+}
+
+// How many of the n bytes at a and at b are the same, by eights.
+fn agree(s: &[u8], a: usize, b: usize, n: usize) -> usize
+    requires { ⌜ (a + n ≤ length (now s)) × (b + n ≤ length (now s)) ⌝ }
+    ensures { λ r. ⌜ (r ≤ n) × Agree (now (s .entry)) a b r ⌝ }
+{
     let mut k = 0;
+    while 8 <= n - k {
+        if !eight_equal(s, a + k, b + k) {
+            return k;
+        }
+        k += 8;
+    }
+    k
+}
+
+// Whether the n bytes at a and at b are the same.
+fn alike(s: &[u8], a: usize, b: usize, n: usize) -> bool
+    requires { ⌜ (a + n ≤ length (now s)) × (b + n ≤ length (now s)) ⌝ }
+    ensures { λ r. ⌜ r ≡ same (take n (drop a (now (s .entry)))) (take n (drop b (now (s .entry)))) ⌝ }
+{
+    let mut k = agree(s, a, b, n);
     while k < n {
         if s[a + k] != s[b + k] {
             return false;
@@ -48,43 +83,213 @@ fn alike(s: &[u8], a: usize, n: usize, b: usize, m: usize) -> bool
     true
 }
 
-// Whether the bytes from `from` up to `to` are among the names of the table's first n rows.
-fn seen(s: &[u8], table: &Places, n: usize, from: usize, to: usize) -> bool
-    requires { ⌜ Table (now s) (now table) n × (from ≤ to) × (to ≤ length (now s)) ⌝ }
-    ensures { λ r. ⌜ r ≡ among (namesOf (now (s .entry)) (now (table .entry)) n) (take (to - from) (drop from (now (s .entry)))) ⌝ }
+// 1 if b is neither p nor q, else 0: a number, so that no branch is guessed.
+fn apart(b: u8, p: u8, q: u8) -> u8
+    ensures small { λ r. ⌜ r ≤ 1 ⌝ }
+    ensures one { λ r. ⌜ (r ≡ 1 → (b ≡ p → ⊥) × (b ≡ q → ⊥)) ⌝ }
 {
-    let mut k = 0;
-    while k < n {
-        let a = table[4 * k];
-        let e = table[4 * k + 1];
-        if alike(s, a, e - a, from, to - from) {
-            return true;
-        }
-        k += 1;
-    }
-    false
+    ((b != p) & (b != q)) as u8
 }
 
-// The places of the attribute n.
-fn put(table: &mut Places, n: usize, name: usize, past: usize, value: usize, end: usize)
-    requires { ⌜ n < ATTRIBUTES ⌝ }
-    ensures { λ r. ⌜ now (table .exit) ≡ stored (now (table .entry)) n name past value end ⌝ }
+// Whether none of the eight bytes at i is p or q.
+fn eight_apart(s: &[u8], i: usize, p: u8, q: u8) -> bool
+    requires { ⌜ i + 8 ≤ length (now s) ⌝ }
+    ensures { λ r. ⌜ (r ≡ true → Lacks p q (now (s .entry)) i 8) ⌝ }
 {
-    table[4 * n] = name;
-    table[4 * n + 1] = past;
-    table[4 * n + 2] = value;
-    table[4 * n + 3] = end;
+    let n = apart(s[i], p, q)
+        + apart(s[i + 1], p, q)
+        + apart(s[i + 2], p, q)
+        + apart(s[i + 3], p, q)
+        + apart(s[i + 4], p, q)
+        + apart(s[i + 5], p, q)
+        + apart(s[i + 6], p, q)
+        + apart(s[i + 7], p, q);
+    n == 8
+}
+
+// Where fewer than eight bytes in a row are neither p nor q.
+fn apart_eights(s: &[u8], at: usize, stop: usize, p: u8, q: u8) -> usize
+    requires { ⌜ (at ≤ stop) × (stop ≤ length (now s)) ⌝ }
+    ensures { λ r. ⌜ (at ≤ r) × (r ≤ stop) × Lacks p q (now (s .entry)) at (r - at) ⌝ }
+{
+    let mut i = at;
+    while 8 <= stop - i {
+        if !eight_apart(s, i, p, q) {
+            return i;
+        }
+        i += 8;
+    }
+    i
+}
+
+// The first place from `at` on, before `stop`, of a byte that is p or q.
+fn next_of(s: &[u8], at: usize, stop: usize, p: u8, q: u8) -> usize
+    requires { ⌜ (at ≤ stop) × (stop ≤ length (now s)) ⌝ }
+    ensures { λ r. ⌜ Found p q (now (s .entry)) at stop r ⌝ }
+{
+    let mut i = apart_eights(s, at, stop, p, q);
+    while i < stop {
+        let b = s[i];
+        if b == p {
+            return i;
+        }
+        if b == q {
+            return i;
+        }
+        i += 1;
+    }
+    i
+}
+
+// Whether the n bytes at b are the whole name that stands at a.
+fn stands_at(s: &[u8], a: usize, b: usize, n: usize) -> bool
+    requires { ⌜ (a < b) × (b + n ≤ length (now s)) ⌝ }
+    ensures { λ r. ⌜ r ≡ not (nameByte (getD (now (s .entry)) (a + n) 0)) && same (take n (drop a (now (s .entry)))) (take n (drop b (now (s .entry)))) ⌝ }
+{
+    if scan::is_name_byte(s[a + n]) {
+        return false;
+    }
+    alike(s, a, b, n)
+}
+
+// Whether the name from `at` up to `to` is one of those of the attributes that stand from `first` on. They are known to be right: a value ends at the
+// next quote like its first.
+fn again(s: &[u8], first: usize, at: usize, to: usize) -> bool
+    requires { ⌜ Stood (now s) first at × (at < to) × (to ≤ length (now s)) × Named (now s) at (to - at) ⌝ }
+    ensures { λ r. ⌜ Repeats (now (s .entry)) first at to r ⌝ }
+{
+    let mut i = first;
+    loop {
+        let j = scan::skip_glue(s, i);
+        if at <= j {
+            return false;
+        }
+        if stands_at(s, j, at, to - at) {
+            return true;
+        }
+        let a = next_of(s, j, at, b'"', b'\'');
+        let q = s[a];
+        let e = next_of(s, a + 1, at, q, q);
+        i = e + 1;
+    }
+}
+
+fn worth(b: u8) -> usize
+    ensures { λ r. ⌜ (r ≡ b) × (r < 256) ⌝ }
+{
+    b as usize
+}
+
+// The last but one of n places; the first, if there is none.
+fn last_but_one(n: usize) -> usize
+    ensures { λ r. ⌜ r ≡ n - 2 ⌝ }
+{
+    if n < 2 {
+        return 0;
+    }
+    n - 2
+}
+
+// The mark of the name that stands from `from` to `to`.
+fn mark(s: &[u8], from: usize, to: usize) -> usize
+    requires { ⌜ (from < to) × (to ≤ length (now s)) ⌝ }
+    ensures { λ r. ⌜ (r < 64) × (r ≡ markOf (take (to - from) (drop from (now (s .entry))))) ⌝ }
+{
+    let n = to - from;
+    let last = worth(s[to - 1]);
+    let mid = worth(s[from + n / 2]);
+    let other = worth(s[from + last_but_one(n)]);
+    (n % 64 + 5 * last + 3 * mid + 4 * other) % 64
+}
+
+// The same as again, and the name is marked: one whose mark is not set is none of them.
+fn met(s: &[u8], first: usize, at: usize, to: usize, marks: &mut [u8; 64]) -> bool
+    requires { ⌜ Ready (now s) first (now marks) at × (at < to) × (to ≤ length (now s)) × Named (now s) at (to - at) ⌝ }
+    ensures { λ r. ⌜ Meets (now (s .entry)) first at to (now (marks .entry)) (now (marks .exit)) r ⌝ }
+{
+    let h = mark(s, at, to);
+    if marks[h] == 0 {
+        marks[h] = 1;
+        return false;
+    }
+    again(s, first, at, to)
+}
+
+// The places of the attribute n, as far as the table reaches.
+fn put(table: &mut [u16], n: usize, name: usize, past: usize, value: usize, end: usize)
+    requires { ⌜ (n < ATTRIBUTES) × (name ≤ end) × (past ≤ end) × (value ≤ end) ⌝ }
+    ensures { λ r. ⌜ PutRow (now (table .entry)) (now (table .exit)) n name past value end ⌝ }
+{
+    if table.len() <= 4 * n + 3 {
+        return;
+    }
+    if 65535 < end {
+        return;
+    }
+    table[4 * n] = name as u16;
+    table[4 * n + 1] = past as u16;
+    table[4 * n + 2] = value as u16;
+    table[4 * n + 3] = end as u16;
 }
 
 // Where a name at `at` lacks one byte to be full, or the input ends.
 fn name_stop(len: usize, at: usize) -> usize
     requires { ⌜ at < len ⌝ }
-    ensures { λ r. ⌜ (r ≤ len) × (r ≤ at + (NAME - 1)) × (r < len → r ≡ at + (NAME - 1)) ⌝ }
+    ensures { λ r. ⌜ (r ≤ len) × (r ≤ at + (NAME - 1)) × (r < len → r ≡ at + (NAME - 1)) × (at + 1 ≤ r) ⌝ }
 {
     if len - at < Limits::NAME {
         return len;
     }
     at + (Limits::NAME - 1)
+}
+
+// 1 if b is a letter, else 0: a number, so that no branch is guessed.
+fn lettered(b: u8) -> u8
+    ensures small { λ r. ⌜ r ≤ 1 ⌝ }
+    ensures one { λ r. ⌜ (r ≡ 1 → nameByte b ≡ true) ⌝ }
+{
+    (((64 < b) & (b < 91)) | ((96 < b) & (b < 123))) as u8
+}
+
+// Whether the eight bytes at i are letters.
+fn eight_letters(s: &[u8], i: usize) -> bool
+    requires { ⌜ i + 8 ≤ length (now s) ⌝ }
+    ensures { λ r. ⌜ (r ≡ true → Named (now (s .entry)) i 8) ⌝ }
+{
+    let n = lettered(s[i])
+        + lettered(s[i + 1])
+        + lettered(s[i + 2])
+        + lettered(s[i + 3])
+        + lettered(s[i + 4])
+        + lettered(s[i + 5])
+        + lettered(s[i + 6])
+        + lettered(s[i + 7]);
+    n == 8
+}
+
+// Where a name has fewer than eight letters in a row before `stop`.
+fn letter_eights(s: &[u8], at: usize, stop: usize) -> usize
+    requires { ⌜ (at < length (now s)) × (nameStart (getD (now s) at 0) ≡ true) × (stop ≤ length (now s)) × (stop ≤ at + (NAME - 1)) × (at + 1 ≤ stop) ⌝ }
+    ensures { λ r. ⌜ Part (now (s .entry)) at r × (r ≤ stop) ⌝ }
+{
+    let mut i = at + 1;
+    while 8 <= stop - i {
+        if !eight_letters(s, i) {
+            return i;
+        }
+        i += 8;
+    }
+    i
+}
+
+// Whether b may stand in a name behind its first byte; small letters, which most are, go first.
+fn is_in_name(b: u8) -> bool
+    ensures { λ r. ⌜ r ≡ nameByte b ⌝ }
+{
+    if (96 < b) & (b < 123) {
+        return true;
+    }
+    scan::is_name_byte(b)
 }
 
 // Where a name ends, or where it lacks one byte to be full.
@@ -93,9 +298,9 @@ fn name_run(s: &[u8], at: usize) -> usize
     ensures { λ r. ⌜ Run (now (s .entry)) at r ⌝ }
 {
     let stop = name_stop(s.len(), at);
-    let mut i = at + 1;
+    let mut i = letter_eights(s, at, stop);
     while i < stop {
-        if !scan::is_name_byte(s[i]) {
+        if !is_in_name(s[i]) {
             return i;
         }
         i += 1;
@@ -103,23 +308,32 @@ fn name_run(s: &[u8], at: usize) -> usize
     i
 }
 
-// A name that is not in the table, up to the byte behind it. A full name that is there is dead at its last byte.
-fn fresh(s: &[u8], at: usize, table: &Places, n: usize) -> Step
-    requires { ⌜ Ready (now s) (now table) n at ⌝ }
-    ensures { λ r. ⌜ Fresh (now (s .entry)) (namesOf (now (s .entry)) (now (table .entry)) n) at r ⌝ }
+// Where a name ends that runs up to i: behind i, if the byte there is its last one.
+fn name_to(s: &[u8], i: usize) -> usize
+    requires { ⌜ i < length (now s) ⌝ }
+    ensures { λ r. ⌜ NameTo (now (s .entry)) i r ⌝ }
+{
+    if scan::is_name_byte(s[i]) {
+        return i + 1;
+    }
+    i
+}
+
+// A name that none of the attributes from `first` on has, up to the byte behind it. A full name that one has is dead at its last byte.
+fn fresh(s: &[u8], first: usize, at: usize, marks: &mut [u8; 64]) -> Step
+    requires { ⌜ Ready (now s) first (now marks) at ⌝ }
+    ensures { λ r. ⌜ FreshSays (now (s .entry)) first at (now (marks .entry)) (now (marks .exit)) r ⌝ }
 {
     let i = name_run(s, at);
     if s.len() <= i {
         return Step::Open;
     }
-    if !scan::is_name_byte(s[i]) {
-        if seen(s, table, n, at, i) {
-            return Step::Bad(i);
-        }
-        return Step::Done(i);
-    }
-    if seen(s, table, n, at, i + 1) {
+    let to = name_to(s, i);
+    if met(s, first, at, to, &mut *marks) {
         return Step::Bad(i);
+    }
+    if to == i {
+        return Step::Done(i);
     }
     if s.len() - i < 2 {
         return Step::Open;
@@ -153,25 +367,43 @@ fn opened(s: &[u8], at: usize) -> Step
     Step::Bad(k)
 }
 
-// The attribute n, from its name on.
-fn attribute(s: &[u8], at: usize, table: &mut Places, n: usize) -> Step
-    requires { ⌜ Ready (now s) (now table) n at ⌝ }
-    ensures { λ r. ⌜ AttributeSays (now (s .entry)) (now (table .entry)) (now (table .exit)) n at r ⌝ }
+/// An attribute from its name on: where its name ends, where its raw value starts, and where it ends.
+pub struct Given {
+    pub past: usize,
+    pub value: usize,
+    pub end: Step,
+}
+
+// An attribute that is not read.
+fn lost(end: Step) -> Given
+    ensures { λ r. ⌜ r ≡ lostGiven end ⌝ }
 {
-    let r = fresh(s, at, table, n);
+    Given {
+        past: 0,
+        value: 0,
+        end,
+    }
+}
+
+// An attribute, from its name on, whose name none of those from `first` on has.
+fn attribute(s: &[u8], first: usize, at: usize, marks: &mut [u8; 64]) -> Given
+    requires { ⌜ Ready (now s) first (now marks) at ⌝ }
+    ensures { λ r. ⌜ AttributeSays (now (s .entry)) first at (now (marks .entry)) (now (marks .exit)) r ⌝ }
+{
+    let r = fresh(s, first, at, &mut *marks);
     let Step::Done(e) = r else {
-        return r;
+        return lost(r);
     };
     let r = opened(s, e);
     let Step::Done(v) = r else {
-        return r;
+        return lost(r);
     };
     let r = value(s, v, s[v - 1]);
-    let Step::Done(f) = r else {
-        return r;
-    };
-    put(table, n, at, e, v, f - 1);
-    Step::Done(f)
+    Given {
+        past: e,
+        value: v,
+        end: r,
+    }
 }
 
 // Whether an attribute comes: glue stands before it, the tag has room for it, and a name starts.
@@ -224,20 +456,14 @@ fn tag_end(s: &[u8], at: usize, may: bool, n: usize) -> Tag
     }
 }
 
-// That a table has all its numbers is known of one that is handed over by value. The copy is never read, and the compiler drops it.
-fn whole(table: Places) -> bool
-    ensures { λ r. ⌜ length table ≡ 128 ⌝ }
-{
-    true
-}
-
 /// Attributes, glue and the end of a tag. may: whether it may be an empty tag.
-/// The table's numbers 4k to 4k + 3 are where the name of the attribute k starts and ends, and where its raw value does.
-pub fn head(s: &[u8], at: usize, may: bool, table: &mut Places) -> Tag
+/// In a table that is lent for them the numbers 4k to 4k + 3 are where the name of the attribute k starts and ends, and where its raw value does,
+/// counted from `at`. An empty one is lent where nobody asks.
+pub fn head(s: &[u8], at: usize, may: bool, table: &mut [u16]) -> Tag
     requires { ⌜ at ≤ length (now s) ⌝ }
     ensures { λ r. ⌜ HeadSays may (now (s .entry)) at (now (table .entry)) (now (table .exit)) r ⌝ }
 {
-    whole(*table);
+    let mut marks = [0u8; 64];
     let mut n = 0;
     let mut i = at;
     loop {
@@ -248,10 +474,12 @@ pub fn head(s: &[u8], at: usize, may: bool, table: &mut Places) -> Tag
         if !goes_on(s[j], j - i, n) {
             return tag_end(s, j, may, n);
         }
-        let r = attribute(s, j, table, n);
+        let g = attribute(s, at, j, &mut marks);
+        let r = g.end;
         let Step::Done(e) = r else {
             return failed(r);
         };
+        put(&mut *table, n, j - at, g.past - at, g.value - at, e - 1 - at);
         n += 1;
         i = e;
     }

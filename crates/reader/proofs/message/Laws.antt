@@ -31,8 +31,8 @@ use Rattle.scan.specs.declared.Step.{Step}
 use Rattle.scan.specs.declared.Step.the-variants.{Done, Open}
 use Rattle.tags.specs.Heads.{HeadRead, HeadSays}
 use Rattle.reader.specs.Elements.{fillTok, GotFiller, GotStart}
-use Rattle.reader.specs.Outline.{innerOf, childOf, tagIn, rootLead, lead, insideFrom, Outlines}
-use Rattle.reader.specs.Message.{withEnd, itself, none, GotInner, insideP, GotInside, declaredP, declaredLead}
+use Rattle.reader.specs.Outline.{innerOf, childOf, tagIn, rootLead, lead, insideFrom}
+use Rattle.reader.specs.Message.{withEnd, itself, none, Drawn, GotInner, insideP, GotInside, declaredP, declaredLead}
 use Rattle.tags.specs.declared.attributes.Tag.{Tag}
 use Rattle.reader.specs.declared.elements.Start.{Start}
 use Rattle.reader.specs.declared.message.Inner.{Inner}
@@ -137,12 +137,12 @@ module _ (d : ℕ) (s : Bytes) (at : ℕ) (old new : List ℕ) (t : Start) where
         let m : length (g .value .name) ≡ t .to - at = ap length (l .name) ∙ rw (length-take, length-drop) (let a = l .from in let b = l .upto in omega arith) in
         let a = l .from in omega arith
 
-    lines-of : (x : Element) (i : ℕ) → tagIn x ≡ tagOf n h → i ≡ insideFrom (t .to) x → Outlines (at + 0) x at (t .to) (t .count) i old new
+    lines-of : (x : Element) (i : ℕ) → tagIn x ≡ tagOf n h → i ≡ insideFrom (t .to) x → Drawn s (at + 0) x at (t .to) (t .count) i old new
     unfolding n h
     lines-of x i q z =
         let l = g .lines in
         let e = name-ends in
-        record { starts = omega arith; ends = rw q e; counts = rw q (l .count); table = rw q (l .table); behind = z }
+        record { lines = record { starts = omega arith; ends = rw q e; counts = rw q (l .count); behind = z }; table = rw q (l .table) }
 
     pub child-empty : t .empty ≡ true → GotInner itself none s at old new (record { end = Done e; from = at; to = t .to; count = t .count; inside = 0 }) (elemP (contentP d) (drop at s))
     unfolding n h
@@ -151,11 +151,11 @@ module _ (d : ℕ) (s : Bytes) (at : ℕ) (old new : List ℕ) (t : Start) where
         so : elemP (contentP d) (drop at s) ≡ done (empty (tagOf n h)) (drop e s)
         so = body ∙ body-empty (contentP d) n h (drop e s) (sym (g .lines .empty) ∙ z)
 
-        says : (v : Element) (e′ : ℕ) → elemP (contentP d) (drop at s) ≡ done v (drop e′ s) → Outlines (at + 0) v at (t .to) (t .count) 0 old new
+        says : (v : Element) (e′ : ℕ) → elemP (contentP d) (drop at s) ≡ done v (drop e′ s) → Drawn s (at + 0) v at (t .to) (t .count) 0 old new
         says v e′ i =
             let j = so in
             let y : empty (tagOf n h) ≡ v = cc in
-            subst (λ (x : Element). Outlines (at + 0) x at (t .to) (t .count) 0 old new) y (lines-of (empty (tagOf n h)) 0 refl refl)
+            subst (λ (x : Element). Drawn s (at + 0) x at (t .to) (t .count) 0 old new) y (lines-of (empty (tagOf n h)) 0 refl refl)
 
     pub child-full : t .end ≡ Done e → t .empty ≡ false → {r : Step} → Got 1 s e r (contentP d (take (t .to - at) (drop at s)) (drop e s))
         → GotInner itself none s at old new (record { end = r; from = at; to = t .to; count = t .count; inside = e }) (elemP (contentP d) (drop at s))
@@ -171,11 +171,11 @@ module _ (d : ℕ) (s : Bytes) (at : ℕ) (old new : List ℕ) (t : Start) where
         behind : e ≡ t .to + length (spellAttributes (h .attributes) ++ (h .trail ++ text ">"))
         behind = let p = g .lines .head-at e ends in head-there true s (t .to) e h (p .0) (g .room) (p .1) no
 
-        says : (v : Element) (e′ : ℕ) → elemP (contentP d) (drop at s) ≡ done v (drop e′ s) → Outlines (at + 0) v at (t .to) (t .count) e old new
+        says : (v : Element) (e′ : ℕ) → elemP (contentP d) (drop at s) ≡ done v (drop e′ s) → Drawn s (at + 0) v at (t .to) (t .count) e old new
         says v e′ i =
             let (x, u, j, k) = both-done (contentP d n (drop e s)) (λ x u. done (full (tagOf n h) (x .content) (x .glue)) u) (sym so ∙ i) in
             let y : full (tagOf n h) (x .content) (x .glue) ≡ v = cc in
-            subst (λ (x : Element). Outlines (at + 0) x at (t .to) (t .count) e old new) y (lines-of (full (tagOf n h) (x .content) (x .glue)) e refl behind)
+            subst (λ (x : Element). Drawn s (at + 0) x at (t .to) (t .count) e old new) y (lines-of (full (tagOf n h) (x .content) (x .glue)) e refl behind)
 
 -- the child, filler and the end tag
 module _ (n s : Bytes) (at : ℕ) (old new : List ℕ) (c r : Inner) where
@@ -205,13 +205,13 @@ module _ (n s : Bytes) (at : ℕ) (old new : List ℕ) (c r : Inner) where
         all : (h : Head) (b : Filler) → Got 1 s at x (insideP n h b (drop at s))
         all h b = let l = known ca (g₁ .got) .says .1 in let m = g₂ .says .1 in last g 1 at (omega arith) (omega arith) (mkRoot h b el (g₂ .says .0)) (so h b)
 
-        says : (h : Head) (b : Filler) (v : Root) (e : ℕ) → insideP n h b (drop at s) ≡ done v (drop e s) → Outlines (at + 0) (v .inner) (r .from) (r .to) (r .count) (r .inside) old new
+        says : (h : Head) (b : Filler) (v : Root) (e : ℕ) → insideP n h b (drop at s) ≡ done v (drop e s) → Drawn s (at + 0) (v .inner) (r .from) (r .to) (r .count) (r .inside) old new
         says h b v e y =
             let (z, u, j, k) = both-done (endTagP n (drop i s)) (λ y z. done (mkRoot h b el (g₂ .says .0) y) z) (sym (so h b) ∙ y) in
             let w : mkRoot h b el (g₂ .says .0) z ≡ v = cc in
-            let o : Outlines (at + 0) el (c .from) (c .to) (c .count) (c .inside) old new = g₁ .lines el a ca (known ca (g₁ .got) .says .3) in
-            subst (λ (v : Root). Outlines (at + 0) (v .inner) (r .from) (r .to) (r .count) (r .inside) old new) w
-            (subst (λ (y : Inner). Outlines (at + 0) el (y .from) (y .to) (y .count) (y .inside) old new) (sym q) o)
+            let o : Drawn s (at + 0) el (c .from) (c .to) (c .count) (c .inside) old new = g₁ .lines el a ca (known ca (g₁ .got) .says .3) in
+            subst (λ (v : Root). Drawn s (at + 0) (v .inner) (r .from) (r .to) (r .count) (r .inside) old new) w
+            (subst (λ (y : Inner). Drawn s (at + 0) el (y .from) (y .to) (y .count) (y .inside) old new) (sym q) o)
 
 -- the values that were read before the child are part of the root
 inside-made : (n : Bytes) (h : Head) (f : Filler) (t : Bytes) (v : Root) (u : Bytes) → insideP n h f t ≡ done v u → (x : Element) × (f′ : Filler) × (g : Bytes) × (mkRoot h f x f′ g ≡ v)
@@ -268,12 +268,12 @@ module _ (s : Bytes) (at : ℕ) where
             let q = g′ .says hd fl in
             record { got = moved (q .got) 1 at (let l = g₁ .says .1 in let m = g₂ .far in let k = g₃ .says .1 in omega arith) (let l = g₁ .says .1 in let m = g₂ .far in let k = g₃ .says .1 in omega arith) so; lines = says q }
           where
-            says : GotInner innerOf none s i old new r (insideP hermes hd fl (drop i s)) → (v : Root) (e : ℕ) → r .end ≡ Done e → rootP (drop at s) ≡ done v (drop e s) → Outlines (at + length (rootLead v)) (v .inner) (r .from) (r .to) (r .count) (r .inside) old new
+            says : GotInner innerOf none s i old new r (insideP hermes hd fl (drop i s)) → (v : Root) (e : ℕ) → r .end ≡ Done e → rootP (drop at s) ≡ done v (drop e s) → Drawn s (at + length (rootLead v)) (v .inner) (r .from) (r .to) (r .count) (r .inside) old new
             says q v e z y =
                 let j : insideP hermes hd fl (drop i s) ≡ done v (drop e s) = sym so ∙ y in
                 let (x, f′, b, k) = inside-made hermes hd fl (drop i s) v (drop e s) j in
                 let p : i + 0 ≡ at + length (rootLead v) = subst (λ (v : Root). i + 0 ≡ at + length (rootLead v)) k (place x f′ b) in
-                subst (λ (m : ℕ). Outlines m (v .inner) (r .from) (r .to) (r .count) (r .inside) old new) p (q .lines v e z j)
+                subst (λ (m : ℕ). Drawn s m (v .inner) (r .from) (r .to) (r .count) (r .inside) old new) p (q .lines v e z j)
 
   -- a declaration, filler and the root
   pub declared-fails : {x : Step} → Fails x → Got 1 s at x (declarationP (drop at s)) → Got 1 s at x (declaredP (drop at s))
@@ -303,13 +303,13 @@ module _ (s : Bytes) (at : ℕ) where
           so : declaredP (drop at s) ≡ chained (rootP (drop b s)) (λ x w. done (declared (g₁ .says .0) (g₂ .says .0) x) w)
           so = then-done _ (g₁ .says .3) ∙ then-done _ (g₂ .says .3)
 
-          says : (v : Layout) (e : ℕ) → r .end ≡ Done e → declaredP (drop at s) ≡ done v (drop e s) → Outlines (at + length (declaredLead v)) (childOf v) (r .from) (r .to) (r .count) (r .inside) old new
+          says : (v : Layout) (e : ℕ) → r .end ≡ Done e → declaredP (drop at s) ≡ done v (drop e s) → Drawn s (at + length (declaredLead v)) (childOf v) (r .from) (r .to) (r .count) (r .inside) old new
           says v e z y =
               let (x, u, j, k) = both-done (rootP (drop b s)) (λ x w. done (declared (g₁ .says .0) (g₂ .says .0) x) w) (sym so ∙ y) in
               let p : declared (g₁ .says .0) (g₂ .says .0) x ≡ v = cc in
               let q : rootP (drop b s) ≡ done x (drop e s) = cc in
-              subst (λ (v : Layout). Outlines (at + length (declaredLead v)) (childOf v) (r .from) (r .to) (r .count) (r .inside) old new) p
-              (subst (λ (m : ℕ). Outlines m (x .inner) (r .from) (r .to) (r .count) (r .inside) old new) (declared-place x) (g .lines x e z q))
+              subst (λ (v : Layout). Drawn s (at + length (declaredLead v)) (childOf v) (r .from) (r .to) (r .count) (r .inside) old new) p
+              (subst (λ (m : ℕ). Drawn s m (x .inner) (r .from) (r .to) (r .count) (r .inside) old new) (declared-place x) (g .lines x e z q))
 
 -- the message
 lead-two : (l : Layout) → 2 + length (declaredLead l) ≡ length (lead l)
@@ -331,7 +331,7 @@ module _ (s : Bytes) (at : ℕ) where
       pub message-declared : {old new : List ℕ} {r : Inner} → getD s a 0 ≡ 63 → GotInner childOf declaredLead s (a + 1) old new r (declaredP (drop (a + 1) s)) → GotInner childOf lead s at old new r (layoutP (drop at s))
       message-declared {old} {new} {r} e g = record {
         got = moved (g .got) 1 at (let l = g₁ .says .1 in omega arith) (let l = g₁ .says .1 in omega arith) so;
-        lines = λ v e z y. subst (λ (m : ℕ). Outlines m (childOf v) (r .from) (r .to) (r .count) (r .inside) old new) (place v) (g .lines v e z (sym so ∙ y));
+        lines = λ v e z y. subst (λ (m : ℕ). Drawn s m (childOf v) (r .from) (r .to) (r .count) (r .inside) old new) (place v) (g .lines v e z (sym so ∙ y));
       }
         where
           so : layoutP (drop at s) ≡ declaredP (drop (a + 1) s)
@@ -354,10 +354,10 @@ module _ (s : Bytes) (at : ℕ) where
           place : (x : Root) → a + length (rootLead x) ≡ at + length (lead (plain x))
           place x = let i = byte-there 60 s at a g₁ in omega arith
 
-          says : (v : Layout) (e : ℕ) → r .end ≡ Done e → layoutP (drop at s) ≡ done v (drop e s) → Outlines (at + length (lead v)) (childOf v) (r .from) (r .to) (r .count) (r .inside) old new
+          says : (v : Layout) (e : ℕ) → r .end ≡ Done e → layoutP (drop at s) ≡ done v (drop e s) → Drawn s (at + length (lead v)) (childOf v) (r .from) (r .to) (r .count) (r .inside) old new
           says v e z y =
               let (x, u, j, k) = both-done (rootP (drop a s)) (λ x w. done (plain x) w) (sym so ∙ y) in
               let p : plain x ≡ v = cc in
               let q : rootP (drop a s) ≡ done x (drop e s) = cc in
-              subst (λ (v : Layout). Outlines (at + length (lead v)) (childOf v) (r .from) (r .to) (r .count) (r .inside) old new) p
-              (subst (λ (m : ℕ). Outlines m (x .inner) (r .from) (r .to) (r .count) (r .inside) old new) (place x) (g .lines x e z q))
+              subst (λ (v : Layout). Drawn s (at + length (lead v)) (childOf v) (r .from) (r .to) (r .count) (r .inside) old new) p
+              (subst (λ (m : ℕ). Drawn s m (x .inner) (r .from) (r .to) (r .count) (r .inside) old new) (place x) (g .lines x e z q))

@@ -18,8 +18,19 @@ returns c = start-unnamed _ _ _ (c .match .keys2) (c .before .name .ensures)
 head-requires : tie.Need-head-requires
 head-requires c κs = let g = known-tok (c .before .before .r .given .1) (c .before .before .before .before .name .ensures) in omega arith
 
+same-length : tie.Need-same-length
+same-length c = search needs
+
 returns-2 : tie.Need-returns-2
-returns-2 c = start-read _ _ _ _ (known-tok (c .before .before .before .r .given .1) (c .before .before .before .before .before .name .ensures)) _ _ (c .head .ensures)
+returns-2 c = start-read _ _ _ _ (known-tok (c .before .before .before .before .before .r .given .1) (c .before .before .before .before .before .before .before .name .ensures)) _ _ (c .before .before .head .ensures)
 
 pub start-tag-spec : {M : Type 1} → statement M
-start-tag-spec = tie.close (tie.spec name-requires enum-known-r returns head-requires returns-2)
+start-tag-spec =
+    tie.close
+    (tie.spec
+    name-requires
+    enum-known-r
+    returns
+    head-requires
+    same-length
+    returns-2)

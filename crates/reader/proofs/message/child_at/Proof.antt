@@ -12,17 +12,26 @@ start-tag-requires c κs = search needs
 enum-known-r : tie.Need-enum-known-r
 enum-known-r c = search needs
 
+same-length : tie.Need-same-length
+same-length c = search needs
+
 returns : tie.Need-returns
-returns c = child-fails _ _ _ _ _ _ (c .match .keys2) (c .before .start-tag .ensures)
+returns c = child-fails _ _ _ _ _ _ (c .match .keys2) (c .before .before .before .start-tag .ensures)
+
+same-length-2 : tie.Need-same-length-2
+same-length-2 c = search needs
 
 returns-2 : tie.Need-returns-2
-returns-2 c = child-empty _ _ _ _ _ _ _ (known-start (c .before .before .r .given .1) (c .before .before .before .before .start-tag .ensures)) (c .if1 .taken)
+returns-2 c = child-empty _ _ _ _ _ _ _ (known-start (c .before .before .r .given .1) (c .before .before .before .before .before .before .start-tag .ensures)) (c .if1 .taken)
 
 content-requires : tie.Need-content-requires
-content-requires c κs = let g = known-start (c .before .before .before .r .given .1) (c .before .before .before .before .before .start-tag .ensures) in let l = g .lines in (omega arith, omega arith, omega arith)
+content-requires c κs = let g = known-start (c .before .before .r .given .1) (c .before .before .before .before .before .before .start-tag .ensures) in let l = g .lines in (omega arith, omega arith, omega arith)
+
+same-length-3 : tie.Need-same-length-3
+same-length-3 c = search needs
 
 returns-3 : tie.Need-returns-3
-returns-3 c = child-full _ _ _ _ _ _ _ (known-start (c .before .before .before .before .r .given .1) (c .before .before .before .before .before .before .start-tag .ensures)) (c .before .before .before .before .r .given .1) (c .before .before .if1 .left) (c .content .ensures)
+returns-3 c = child-full _ _ _ _ _ _ _ (known-start (c .before .before .before .r .given .1) (c .before .before .before .before .before .before .before .start-tag .ensures)) (c .before .before .before .r .given .1) (c .before .if1 .left) (c .content .ensures)
 
 pub child-at-spec : {M : Type 1} → statement M
 child-at-spec =
@@ -30,7 +39,10 @@ child-at-spec =
     (tie.spec
     start-tag-requires
     enum-known-r
+    same-length
     returns
+    same-length-2
     returns-2
     content-requires
+    same-length-3
     returns-3)

@@ -36,8 +36,11 @@ returns-2 c = inner-fails childOf declaredLead _ _ _ _ (c .without2 .ensures) (c
 root-requires : tie.Need-root-requires
 root-requires c κs = let g = known-filler (c .before .before .r2 .given .1) (c .before .before .before .before .filler-lt .ensures) in omega arith
 
+same-length : tie.Need-same-length
+same-length c = search needs
+
 returns-3 : tie.Need-returns-3
-returns-3 c = declared-read _ _ _ (known (c .before .before .before .before .before .before .before .r .given .1) (c .before .before .before .before .before .before .before .before .before .declaration .ensures)) _ (known-filler (c .before .before .before .r2 .given .1) (c .before .before .before .before .before .filler-lt .ensures)) (c .root .ensures)
+returns-3 c = declared-read _ _ _ (known (c .before .before .before .before .before .before .before .before .before .r .given .1) (c .before .before .before .before .before .before .before .before .before .before .before .declaration .ensures)) _ (known-filler (c .before .before .before .before .before .r2 .given .1) (c .before .before .before .before .before .before .before .filler-lt .ensures)) (c .before .before .root .ensures)
 
 pub declared-spec : {M : Type 1} → statement M
 declared-spec =
@@ -52,4 +55,5 @@ declared-spec =
     without-requires-2
     returns-2
     root-requires
+    same-length
     returns-3)

@@ -35,14 +35,20 @@ add-declared c = search needs
 declared-requires : tie.Need-declared-requires
 declared-requires c κs = search needs
 
+same-length : tie.Need-same-length
+same-length c = search needs
+
 returns-3 : tie.Need-returns-3
-returns-3 c = message-declared _ _ _ (known (c .before .before .before .before .before .before .r .given .1) (c .before .before .before .before .before .before .before .before .byte .ensures)) (c .before .before .before .before .if1 .left) (c .before .before .if2 .taken) (c .declared .ensures)
+returns-3 c = message-declared _ _ _ (known (c .before .before .before .before .before .before .before .before .r .given .1) (c .before .before .before .before .before .before .before .before .before .before .byte .ensures)) (c .before .before .before .before .before .before .if1 .left) (c .before .before .before .before .if2 .taken) (c .before .before .declared .ensures)
 
 root-requires : tie.Need-root-requires
 root-requires c κs = search needs
 
+same-length-2 : tie.Need-same-length-2
+same-length-2 c = search needs
+
 returns-4 : tie.Need-returns-4
-returns-4 c = message-plain _ _ _ (known (c .before .before .before .before .before .before .r .given .1) (c .before .before .before .before .before .before .before .before .byte .ensures)) (c .before .before .before .before .if1 .left) (c .before .before .if2 .left) (c .root .ensures)
+returns-4 c = message-plain _ _ _ (known (c .before .before .before .before .before .before .before .before .r .given .1) (c .before .before .before .before .before .before .before .before .before .before .byte .ensures)) (c .before .before .before .before .before .before .if1 .left) (c .before .before .before .before .if2 .left) (c .before .before .root .ensures)
 
 pub message-spec : {M : Type 1} → statement M
 message-spec =
@@ -57,6 +63,8 @@ message-spec =
     shared-slice-read-if2
     add-declared
     declared-requires
+    same-length
     returns-3
     root-requires
+    same-length-2
     returns-4)

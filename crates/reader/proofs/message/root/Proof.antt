@@ -23,6 +23,9 @@ without-requires c κs = search needs
 returns : tie.Need-returns
 returns c = inner-fails innerOf rootLead _ _ _ _ (c .without .ensures) (c .before .match .keys2) (root-name-fails _ _ (c .before .match .keys2) (c .before .before .literal .ensures))
 
+slice-aggregate-head : tie.Need-slice-aggregate-head
+slice-aggregate-head c = search needs
+
 head-requires : tie.Need-head-requires
 head-requires c κs = let g = known (c .before .before .r .given .1) (c .before .before .before .before .literal .ensures) in omega arith
 
@@ -33,10 +36,10 @@ without-requires-2 : tie.Need-without-requires-2
 without-requires-2 c κs = search needs
 
 returns-2 : tie.Need-returns-2
-returns-2 c = inner-fails innerOf rootLead _ _ _ _ (c .without2 .ensures) (c .before .match2 .keys2) (root-tag-fails _ _ _ (known (c .before .before .before .before .before .r .given .1) (c .before .before .before .before .before .before .before .literal .ensures)) (c .before .match2 .keys2) (c .before .before .head .ensures))
+returns-2 c = inner-fails innerOf rootLead _ _ _ _ (c .without2 .ensures) (c .before .match2 .keys2) (root-tag-fails _ _ _ (known (c .before .before .before .before .before .before .r .given .1) (c .before .before .before .before .before .before .before .before .literal .ensures)) (c .before .match2 .keys2) (c .before .before .before .head .ensures))
 
 filler-lt-requires : tie.Need-filler-lt-requires
-filler-lt-requires c κs = let h = known-head (c .before .r2 .given .1) (c .before .before .before .head .ensures) in omega arith
+filler-lt-requires c κs = let h = known-head (c .before .r2 .given .1) (c .before .before .before .before .head .ensures) in omega arith
 
 enum-known-r-3 : tie.Need-enum-known-r-3
 enum-known-r-3 c = search needs
@@ -45,13 +48,16 @@ without-requires-3 : tie.Need-without-requires-3
 without-requires-3 c κs = search needs
 
 returns-3 : tie.Need-returns-3
-returns-3 c = inner-fails innerOf rootLead _ _ _ _ (c .without3 .ensures) (c .before .match3 .keys2) (root-filler-fails _ _ _ (known (c .before .before .before .before .before .before .before .before .before .r .given .1) (c .before .before .before .before .before .before .before .before .before .before .before .literal .ensures)) _ (known-head (c .before .before .before .before .r2 .given .1) (c .before .before .before .before .before .before .head .ensures)) (c .before .match3 .keys2) (c .before .before .filler-lt .ensures))
+returns-3 c = inner-fails innerOf rootLead _ _ _ _ (c .without3 .ensures) (c .before .match3 .keys2) (root-filler-fails _ _ _ (known (c .before .before .before .before .before .before .before .before .before .before .r .given .1) (c .before .before .before .before .before .before .before .before .before .before .before .before .literal .ensures)) _ (known-head (c .before .before .before .before .r2 .given .1) (c .before .before .before .before .before .before .before .head .ensures)) (c .before .match3 .keys2) (c .before .before .filler-lt .ensures))
 
 inside-requires : tie.Need-inside-requires
-inside-requires c κs = let g = known (c .before .before .before .before .before .before .before .before .before .before .before .r .given .1) (c .before .before .before .before .before .before .before .before .before .before .before .before .before .literal .ensures) in let h = known-filler (c .before .before .r3 .given .1) (c .before .before .before .before .filler-lt .ensures) in (omega arith, omega arith, omega arith)
+inside-requires c κs = let g = known (c .before .before .before .before .before .before .before .before .before .before .before .before .r .given .1) (c .before .before .before .before .before .before .before .before .before .before .before .before .before .before .literal .ensures) in let h = known-filler (c .before .before .r3 .given .1) (c .before .before .before .before .filler-lt .ensures) in (omega arith, omega arith, omega arith)
+
+same-length : tie.Need-same-length
+same-length c = search needs
 
 returns-4 : tie.Need-returns-4
-returns-4 c = root-read _ _ _ (known (c .before .before .before .before .before .before .before .before .before .before .before .before .r .given .1) (c .before .before .before .before .before .before .before .before .before .before .before .before .before .before .literal .ensures)) _ (known-head (c .before .before .before .before .before .before .before .r2 .given .1) (c .before .before .before .before .before .before .before .before .before .head .ensures)) _ (known-filler (c .before .before .before .r3 .given .1) (c .before .before .before .before .before .filler-lt .ensures)) (c .inside .ensures)
+returns-4 c = root-read _ _ _ (known (c .before .before .before .before .before .before .before .before .before .before .before .before .before .before .before .r .given .1) (c .before .before .before .before .before .before .before .before .before .before .before .before .before .before .before .before .before .literal .ensures)) _ (known-head (c .before .before .before .before .before .before .before .before .before .r2 .given .1) (c .before .before .before .before .before .before .before .before .before .before .before .before .head .ensures)) _ (known-filler (c .before .before .before .before .before .r3 .given .1) (c .before .before .before .before .before .before .before .filler-lt .ensures)) (c .before .before .inside .ensures)
 
 pub root-spec : {M : Type 1} → statement M
 root-spec =
@@ -62,6 +68,7 @@ root-spec =
     enum-known-r
     without-requires
     returns
+    slice-aggregate-head
     head-requires
     enum-known-r-2
     without-requires-2
@@ -71,4 +78,5 @@ root-spec =
     without-requires-3
     returns-3
     inside-requires
+    same-length
     returns-4)

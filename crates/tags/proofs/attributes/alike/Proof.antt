@@ -1,36 +1,36 @@
 -- The invariant: the first `k` bytes agree, so the rest decides.
 use Prim.Native.Nat.{_-_}
 use native.Mathlib.Omega.{arith}
-use Rattle.tags.proofs.TableLaws.{alike-length, Alike, alike-start, alike-done, alike-miss, alike-next}
+use Rattle.tags.proofs.CompareLaws.{Alike, alike-many, alike-done, alike-miss, alike-next}
 use Rattle.tags.proofs.attributes.alike.Statement.{statement}
 use Rattle.tags.proofs.attributes.alike.Tie as tie
 
 abbrev Inv-loop : tie.InvT-loop
-Inv-loop s a n b m k₀ k = Alike s a n b k
+Inv-loop s a b n k₀ k = Alike s a b n k
 
 abbrev μ-loop : tie.MeasureT-loop
-μ-loop s a n b m k₀ k = n - k
-
-returns : tie.Need-returns Inv-loop μ-loop
-returns c = alike-length _ _ _ _ _ (c .before .pre .0) (c .before .pre .1) (c .if1 .taken)
+μ-loop s a b n k₀ k = n - k
 
 loop-holds : tie.Need-loop-holds Inv-loop μ-loop
-loop-holds c = alike-start _ _ _ _
+loop-holds c = alike-many _ _ _ _ (omega arith) (omega arith) _ (c .agree .ensures .0) (c .agree .ensures .1)
 
-add-if2 : tie.Need-add-if2 Inv-loop μ-loop
-add-if2 c = omega arith
+agree-requires : tie.Need-agree-requires Inv-loop μ-loop
+agree-requires c κs = (omega arith, omega arith)
 
-shared-slice-read-if2 : tie.Need-shared-slice-read-if2 Inv-loop μ-loop
-shared-slice-read-if2 c = omega arith
+add-if1 : tie.Need-add-if1 Inv-loop μ-loop
+add-if1 c = omega arith
 
-add-if2-2 : tie.Need-add-if2-2 Inv-loop μ-loop
-add-if2-2 c = omega arith
+shared-slice-read-if1 : tie.Need-shared-slice-read-if1 Inv-loop μ-loop
+shared-slice-read-if1 c = omega arith
 
-shared-slice-read-if2-2 : tie.Need-shared-slice-read-if2-2 Inv-loop μ-loop
-shared-slice-read-if2-2 c = omega arith
+add-if1-2 : tie.Need-add-if1-2 Inv-loop μ-loop
+add-if1-2 c = omega arith
 
-returns-2 : tie.Need-returns-2 Inv-loop μ-loop
-returns-2 c = alike-miss _ _ _ _ _ _ (c .before .before .before .before .before .if1 .left) (c .before .before .before .before .loop .inv) (c .before .before .before .before .before .before .pre .0) (omega arith) (c .before .before .before .loop-test .taken) (c .if2 .taken)
+shared-slice-read-if1-2 : tie.Need-shared-slice-read-if1-2 Inv-loop μ-loop
+shared-slice-read-if1-2 c = omega arith
+
+returns : tie.Need-returns Inv-loop μ-loop
+returns c = alike-miss _ _ _ _ _ (c .before .before .before .before .loop .inv) (omega arith) (omega arith) (c .before .before .before .loop-test .taken) (c .if1 .taken)
 
 add-k : tie.Need-add-k Inv-loop μ-loop
 add-k c = omega arith
@@ -39,10 +39,10 @@ loop-less : tie.Need-loop-less Inv-loop μ-loop
 loop-less c = omega arith
 
 loop-again : tie.Need-loop-again Inv-loop μ-loop
-loop-again c = alike-next _ _ _ _ _ _ (c .before .before .before .before .before .if1 .left) (c .before .before .before .before .loop .inv) (c .before .before .before .before .before .before .pre .0) (omega arith) (c .before .before .before .loop-test .taken) (c .if2 .left)
+loop-again c = alike-next _ _ _ _ _ (c .before .before .before .before .loop .inv) (omega arith) (omega arith) (c .before .before .before .loop-test .taken) (c .if1 .left)
 
-returns-3 : tie.Need-returns-3 Inv-loop μ-loop
-returns-3 c = alike-done _ _ _ _ _ _ (c .before .before .if1 .left) (c .before .loop .inv) (c .loop-test .left)
+returns-2 : tie.Need-returns-2 Inv-loop μ-loop
+returns-2 c = alike-done _ _ _ _ _ (c .before .loop .inv) (c .loop-test .left)
 
 pub alike-spec : {M : Type 1} → statement M
 alike-spec =
@@ -50,14 +50,14 @@ alike-spec =
     (tie.spec
     Inv-loop
     μ-loop
-    returns
+    agree-requires
     loop-holds
-    add-if2
-    shared-slice-read-if2
-    add-if2-2
-    shared-slice-read-if2-2
-    returns-2
+    add-if1
+    shared-slice-read-if1
+    add-if1-2
+    shared-slice-read-if1-2
+    returns
     add-k
     loop-less
     loop-again
-    returns-3)
+    returns-2)

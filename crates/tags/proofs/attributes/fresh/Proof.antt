@@ -1,67 +1,54 @@
--- The model of a name jumps over the run; the table is asked once, where the name ends or is full.
+-- The model of a name jumps over the run; the earlier names are asked once, where the name ends or is full.
 use mathlib.Core.Path.{sym, _∙_}
-use borrow.Author.Tests.{not-true, not-false}
-use borrow.Author.Needs.{needs}
-use Rattle.tags.proofs.NameLaws.{fresh-end, fresh-again, fresh-done, fresh-full, fresh-full-end, fresh-long, fresh-last}
+use native.Mathlib.Omega.{arith}
+use Rattle.tags.proofs.NameLaws.{name-whole, says-end, says-met, says-short, says-full-end, says-long, says-last}
 use Rattle.tags.proofs.attributes.fresh.Statement.{statement}
 use Rattle.tags.proofs.attributes.fresh.Tie as tie
 
 name-run-requires : tie.Need-name-run-requires
-name-run-requires c κs = search needs
+name-run-requires c κs = (c .before .pre .stood .inside, c .before .pre .stood .starts)
 
 returns : tie.Need-returns
-returns c = fresh-end _ _ _ _ (c .before .name-run .ensures) (c .if1 .taken)
+returns c = says-end _ _ _ _ _ (c .before .name-run .ensures) (c .if1 .taken)
 
-shared-slice-read-is-name-byte : tie.Need-shared-slice-read-is-name-byte
-shared-slice-read-is-name-byte c = search needs
+name-to-requires : tie.Need-name-to-requires
+name-to-requires c κs = c .if1 .left
 
-is-name-byte-requires : tie.Need-is-name-byte-requires
-is-name-byte-requires c κs = search needs
-
-seen-requires : tie.Need-seen-requires
-seen-requires c κs = search needs
+met-requires : tie.Need-met-requires
+met-requires c κs = let z = name-whole _ (c .before .before .before .before .before .args .first) _ _ _ (c .before .before .before .name-run .ensures) (c .before .before .if1 .left) (c .before .name-to .ensures) in (c .before .before .before .before .before .pre, z .0, z .1, z .2)
 
 returns-2 : tie.Need-returns-2
-returns-2 c = fresh-again _ _ _ _ (c .before .before .before .before .before .before .name-run .ensures) (c .before .before .before .before .before .if1 .left) (sym (c .before .before .before .is-name-byte .ensures) ∙ not-true _ (c .before .before .if2 .taken)) (sym (c .before .seen .ensures) ∙ c .if3 .taken)
+returns-2 c = says-met _ _ _ _ _ (c .before .before .before .before .before .name-run .ensures) (c .before .before .before .before .if1 .left) (c .before .before .before .name-to .ensures) _ _ (c .before .met .ensures) (c .if2 .taken)
 
 returns-3 : tie.Need-returns-3
-returns-3 c = fresh-done _ _ _ _ (c .before .before .before .before .before .before .name-run .ensures) (c .before .before .before .before .before .if1 .left) (sym (c .before .before .before .is-name-byte .ensures) ∙ not-true _ (c .before .before .if2 .taken)) (sym (c .before .seen .ensures) ∙ c .if3 .left)
+returns-3 c = says-short _ _ _ _ _ (c .before .before .before .before .before .before .name-run .ensures) (c .before .before .before .before .before .if1 .left) (c .before .before .before .before .name-to .ensures) _ _ (c .before .before .met .ensures) (c .before .if2 .left) (c .if3 .taken)
 
-add-seen : tie.Need-add-seen
-add-seen c = search needs
-
-seen-requires-2 : tie.Need-seen-requires-2
-seen-requires-2 c κs = search needs
+sub-if4 : tie.Need-sub-if4
+sub-if4 c = let x = c .before .before .before .before .before .if1 .left in omega arith
 
 returns-4 : tie.Need-returns-4
-returns-4 c = fresh-full _ _ _ _ (c .before .before .before .before .before .before .name-run .ensures) (c .before .before .before .before .before .if1 .left) (sym (c .before .before .before .is-name-byte .ensures) ∙ not-false _ (c .before .before .if2 .left)) (sym (c .before .seen2 .ensures) ∙ c .if4 .taken)
-
-sub-if5 : tie.Need-sub-if5
-sub-if5 c = search needs
-
-returns-5 : tie.Need-returns-5
-returns-5 c = fresh-full-end _ _ _ _ (c .before .before .before .before .before .before .before .name-run .ensures) (c .before .before .before .before .before .before .if1 .left) (sym (c .before .before .before .before .is-name-byte .ensures) ∙ not-false _ (c .before .before .before .if2 .left)) (sym (c .before .before .seen2 .ensures) ∙ c .before .if4 .left) (c .if5 .taken)
+returns-4 c = says-full-end _ _ _ _ _ (c .before .before .before .before .before .before .before .name-run .ensures) (c .before .before .before .before .before .before .if1 .left) (c .before .before .before .before .before .name-to .ensures) _ _ (c .before .before .before .met .ensures) (c .before .before .if2 .left) (c .before .if3 .left) (c .if4 .taken)
 
 add-is-name-byte : tie.Need-add-is-name-byte
-add-is-name-byte c = search needs
+add-is-name-byte c = let x = c .before .before .before .before .before .before .if1 .left in let y = c .if4 .left in omega arith
 
-shared-slice-read-is-name-byte-2 : tie.Need-shared-slice-read-is-name-byte-2
-shared-slice-read-is-name-byte-2 c = search needs
+shared-slice-read-is-name-byte : tie.Need-shared-slice-read-is-name-byte
+shared-slice-read-is-name-byte c = let x = c .before .before .before .before .before .before .before .if1 .left in let y = c .before .if4 .left in omega arith
 
-is-name-byte-requires-2 : tie.Need-is-name-byte-requires-2
-is-name-byte-requires-2 c κs = search needs
+is-name-byte-requires : tie.Need-is-name-byte-requires
+is-name-byte-requires c κs = tt
 
-add-t16 : tie.Need-add-t16
-add-t16 c = search needs
+add-t15 : tie.Need-add-t15
+add-t15 c = let x = c .before .before .before .before .before .before .before .before .before .if1 .left in let y = c .before .before .before .if4 .left in omega arith
+
+returns-5 : tie.Need-returns-5
+returns-5 c = says-long _ _ _ _ _ (c .before .before .before .before .before .before .before .before .before .before .name-run .ensures) (c .before .before .before .before .before .before .before .before .before .if1 .left) (c .before .before .before .before .before .before .before .before .name-to .ensures) _ _ (c .before .before .before .before .before .before .met .ensures) (c .before .before .before .before .before .if2 .left) (c .before .before .before .before .if3 .left) (c .before .before .before .if4 .left) (sym (c .before .is-name-byte .ensures) ∙ c .if5 .taken)
+
+add-t11 : tie.Need-add-t11
+add-t11 c = let x = c .before .before .before .before .before .before .before .before .before .if1 .left in let y = c .before .before .before .if4 .left in omega arith
 
 returns-6 : tie.Need-returns-6
-returns-6 c = fresh-long _ _ _ _ (c .before .before .before .before .before .before .before .before .before .before .name-run .ensures) (c .before .before .before .before .before .before .before .before .before .if1 .left) (sym (c .before .before .before .before .before .before .before .is-name-byte .ensures) ∙ not-false _ (c .before .before .before .before .before .before .if2 .left)) (sym (c .before .before .before .before .before .seen2 .ensures) ∙ c .before .before .before .before .if4 .left) (c .before .before .before .if5 .left) (sym (c .before .is-name-byte2 .ensures) ∙ c .if6 .taken)
-
-add-t13 : tie.Need-add-t13
-add-t13 c = search needs
-
-returns-7 : tie.Need-returns-7
-returns-7 c = fresh-last _ _ _ _ (c .before .before .before .before .before .before .before .before .before .before .name-run .ensures) (c .before .before .before .before .before .before .before .before .before .if1 .left) (sym (c .before .before .before .before .before .before .before .is-name-byte .ensures) ∙ not-false _ (c .before .before .before .before .before .before .if2 .left)) (sym (c .before .before .before .before .before .seen2 .ensures) ∙ c .before .before .before .before .if4 .left) (c .before .before .before .if5 .left) (sym (c .before .is-name-byte2 .ensures) ∙ c .if6 .left)
+returns-6 c = says-last _ _ _ _ _ (c .before .before .before .before .before .before .before .before .before .before .name-run .ensures) (c .before .before .before .before .before .before .before .before .before .if1 .left) (c .before .before .before .before .before .before .before .before .name-to .ensures) _ _ (c .before .before .before .before .before .before .met .ensures) (c .before .before .before .before .before .if2 .left) (c .before .before .before .before .if3 .left) (c .before .before .before .if4 .left) (sym (c .before .is-name-byte .ensures) ∙ c .if5 .left)
 
 pub fresh-spec : {M : Type 1} → statement M
 fresh-spec =
@@ -69,20 +56,16 @@ fresh-spec =
     (tie.spec
     name-run-requires
     returns
-    shared-slice-read-is-name-byte
-    is-name-byte-requires
-    seen-requires
+    name-to-requires
+    met-requires
     returns-2
     returns-3
-    add-seen
-    seen-requires-2
+    sub-if4
     returns-4
-    sub-if5
-    returns-5
     add-is-name-byte
-    shared-slice-read-is-name-byte-2
-    is-name-byte-requires-2
-    add-t16
-    returns-6
-    add-t13
-    returns-7)
+    shared-slice-read-is-name-byte
+    is-name-byte-requires
+    add-t15
+    returns-5
+    add-t11
+    returns-6)

@@ -4,7 +4,7 @@ use Prim.Native.Nat.{_-_}
 use native.Mathlib.Omega.{arith}
 use borrow.Author.Tests.{not-true, not-false}
 use Rattle.tags.specs.Names.{Part}
-use Rattle.tags.proofs.NameLaws.{part-first, part-more, run-end, run-stop}
+use Rattle.tags.proofs.NameLaws.{part-more, run-end, run-stop}
 use Rattle.tags.proofs.attributes.name_run.Statement.{statement}
 use Rattle.tags.proofs.attributes.name_run.Tie as tie
 
@@ -17,32 +17,32 @@ abbrev μ-loop : tie.MeasureT-loop
 name-stop-requires : tie.Need-name-stop-requires Inv-loop μ-loop
 name-stop-requires c κs = omega arith
 
-add-i : tie.Need-add-i Inv-loop μ-loop
-add-i c = omega arith
+letter-eights-requires : tie.Need-letter-eights-requires Inv-loop μ-loop
+letter-eights-requires c κs = (omega arith, c .before .before .pre .1, omega arith, omega arith, c .name-stop .ensures .3)
 
 loop-holds : tie.Need-loop-holds Inv-loop μ-loop
-loop-holds c = part-first _ _ (c .before .before .pre .0) (c .before .before .pre .1)
+loop-holds c = c .letter-eights .ensures .0
 
-shared-slice-read-is-name-byte : tie.Need-shared-slice-read-is-name-byte Inv-loop μ-loop
-shared-slice-read-is-name-byte c = omega arith
+shared-slice-read-is-in-name : tie.Need-shared-slice-read-is-in-name Inv-loop μ-loop
+shared-slice-read-is-in-name c = omega arith
 
-is-name-byte-requires : tie.Need-is-name-byte-requires Inv-loop μ-loop
-is-name-byte-requires c κs = tt
+is-in-name-requires : tie.Need-is-in-name-requires Inv-loop μ-loop
+is-in-name-requires c κs = tt
 
 returns : tie.Need-returns Inv-loop μ-loop
-returns c = run-stop _ _ _ (c .before .before .before .before .loop .inv) (sym (c .before .is-name-byte .ensures) ∙ not-true _ (c .if1 .taken))
+returns c = run-stop _ _ _ (c .before .before .before .before .loop .inv) (sym (c .before .is-in-name .ensures) ∙ not-true _ (c .if1 .taken))
 
-add-i-2 : tie.Need-add-i-2 Inv-loop μ-loop
-add-i-2 c = omega arith
+add-i : tie.Need-add-i Inv-loop μ-loop
+add-i c = omega arith
 
 loop-less : tie.Need-loop-less Inv-loop μ-loop
 loop-less c = omega arith
 
 loop-again : tie.Need-loop-again Inv-loop μ-loop
-loop-again c = part-more _ _ _ (c .before .before .before .before .loop .inv) (omega arith) (omega arith) (sym (c .before .is-name-byte .ensures) ∙ not-false _ (c .if1 .left))
+loop-again c = part-more _ _ _ (c .before .before .before .before .loop .inv) (omega arith) (omega arith) (sym (c .before .is-in-name .ensures) ∙ not-false _ (c .if1 .left))
 
 returns-2 : tie.Need-returns-2 Inv-loop μ-loop
-returns-2 c = run-end _ _ _ _ (c .before .loop .inv) (c .loop-test .left) (c .before .before .name-stop .ensures .2)
+returns-2 c = run-end _ _ _ _ (c .before .loop .inv) (c .loop-test .left) (c .before .before .before .name-stop .ensures .2)
 
 pub name-run-spec : {M : Type 1} → statement M
 name-run-spec =
@@ -51,12 +51,12 @@ name-run-spec =
     Inv-loop
     μ-loop
     name-stop-requires
-    add-i
+    letter-eights-requires
     loop-holds
-    shared-slice-read-is-name-byte
-    is-name-byte-requires
+    shared-slice-read-is-in-name
+    is-in-name-requires
     returns
-    add-i-2
+    add-i
     loop-less
     loop-again
     returns-2)
