@@ -86,7 +86,7 @@ pub fn inside(s: &[u8], at: usize, from: usize, to: usize, table: &mut Places) -
     let Step::Done(a) = r else {
         return ended(c, r);
     };
-    let r = elements::filler_lt(s, a);
+    let r = fillers::filler_lt(s, a, false);
     let Step::Done(a) = r else {
         return ended(c, r);
     };
@@ -122,7 +122,7 @@ pub fn root(s: &[u8], at: usize, table: &mut Places) -> Inner
     let Step::Done(e) = r else {
         return without(r);
     };
-    let r = elements::filler_lt(s, e);
+    let r = fillers::filler_lt(s, e, false);
     let Step::Done(i) = r else {
         return without(r);
     };
@@ -138,7 +138,7 @@ pub fn declared(s: &[u8], at: usize, table: &mut Places) -> Inner
     let Step::Done(a) = r else {
         return without(r);
     };
-    let r = elements::filler_lt(s, a);
+    let r = fillers::filler_lt(s, a, false);
     let Step::Done(a) = r else {
         return without(r);
     };
