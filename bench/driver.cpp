@@ -63,6 +63,17 @@ std::string siblings(unsigned n) {
     return s + "</Foreign></Hermes>";
 }
 
+std::string text_of(unsigned n) {
+    std::string s = "<Hermes><Foreign>";
+    return s + words(n - s.size() - 19) + "</Foreign></Hermes>";
+}
+
+std::string comments(unsigned n) {
+    std::string s = "<Hermes><Foreign>";
+    for (unsigned i = 0; i < n; i++) s += "<!--a-->";
+    return s + "</Foreign></Hermes>";
+}
+
 std::string attributes32() {
     std::string s = "<Hermes><Foreign";
     for (int i = 0; i < 32; i++) s += " AttributeWithALongNameThatDiffersLate" + std::to_string(10 + i) + "=\"1\"";
@@ -343,6 +354,12 @@ Stream many(unsigned n, const std::function<std::string()> &f) {
     return s;
 }
 
+// What a byte costs in a large message against a small one: 1 where the cost is linear.
+void growth(const char *title, std::string (*made)(unsigned), unsigned large, unsigned small) {
+    double s = ours(many(4000, [&] { return made(small); })), l = ours(many(40, [&] { return made(large); }));
+    printf("%s: cost a byte at %u against %u: %.2f\n", title, large, small, l / s);
+}
+
 }  // namespace
 
 int main() {
@@ -357,6 +374,9 @@ int main() {
     table("one value of 60,000 bytes", many(40, [] { return long_value(60000); }), peers);
     table("10,000 siblings", many(40, [] { return siblings(10000); }), peers);
     table("32 long attribute names", many(1000, attributes32), peers);
-    double small = ours(many(4000, [] { return long_value(600); })), large = ours(many(40, [] { return long_value(60000); }));
-    printf("cost a byte at 60,000 bytes against 600: %.2f\n", large / small);
+    table("one text of 60,000 bytes", many(40, [] { return text_of(60000); }), peers);
+    table("8,000 comments", many(40, [] { return comments(8000); }), peers);
+    growth("one value", long_value, 60000, 600);
+    growth("one text", text_of, 60000, 600);
+    growth("comments", comments, 8000, 80);
 }

@@ -1,4 +1,4 @@
-// Makes messages with all the freedom of document 01's grammar: declaration, glue, quotes, tags, depth, counts, names, references, characters.
+// Makes messages with all the freedom of the grammar: declaration, glue, text, comments, quotes, tags, depth, counts, names, references, characters.
 // `Wide` opens one limit after the other, for documents that are XML and no message.
 #pragma once
 #include <string>
@@ -87,10 +87,10 @@ class Maker {
         for (std::vector<std::string> used; used.size() < n;) attribute(fresh(used), value());
         glue(0);
         put(">");
-        gap();
+        gap(false);
         if (r.one_in(3)) known();
         else element(element_name(), r.one_in(8) ? w.attributes : r.below(5), 2);
-        gap();
+        gap(false);
         close("Hermes");
         return m;
     }
@@ -109,9 +109,42 @@ class Maker {
         for (unsigned i = 0; i < n; i++) m.bytes += r.one_in(2) ? ' ' : r.of(bytes);
     }
 
-    void gap() {
+    // Between elements: glue, now and then comments, and below the root text.
+    void gap(bool below) {
         m.gaps.push_back(m.bytes.size());
         glue(0);
+        if (r.one_in(6)) filler(below);
+    }
+
+    void filler(bool below) {
+        for (unsigned n = r.from_to(1, 4); n; n--) {
+            if (below && r.one_in(2)) put(char_data());
+            else comment();
+            glue(0);
+        }
+    }
+
+    // `from` is written `to` wherever it stands.
+    static void replaced(std::string &s, const std::string &from, const std::string &to) {
+        for (size_t at = s.find(from); at != std::string::npos; at = s.find(from)) s.replace(at, from.size(), to);
+    }
+
+    // Glue may follow: it does not join what stands before and behind it to `]]>`.
+    std::string char_data() {
+        static const char *const bits[] = {"]", "]]", "]]]", "]]&gt;", "]]&#62;", "] ]>", ">", "\"", "'", "/>", "--", "-->", "=", "\r\n", "\r", "?>"};
+        std::string s;
+        for (unsigned n = r.one_in(60) ? r.below(300) : r.below(8); n; n--) s += r.one_in(3) ? r.of(bits) : r.one_in(3) ? numbered(character()) : spelt(character());
+        replaced(s, "]]>", "]]&gt;");
+        return s;
+    }
+
+    void comment() {
+        static const char *const bits[] = {"</Hermes>", "</X>", "<Hermes><CheckAlive/></Hermes>", "&", "&no;", "&#0;", "<", ">", "->", "-", "]]>", "<!", "<![CDATA[", "<?xml", "\"", "'"};
+        std::string s;
+        for (unsigned n = r.one_in(60) ? r.below(300) : r.below(8); n; n--) s += r.one_in(2) ? r.of(bits) : utf8(character());
+        replaced(s, "--", "- ");
+        if (!s.empty() && s.back() == '-') s += ' ';
+        put("<!--" + s + "-->");
     }
 
     void quoted(const std::string &s) {
@@ -144,6 +177,7 @@ class Maker {
         glue(0);
         put("?>");
         glue(0);
+        if (r.one_in(6)) filler(false);
     }
 
     std::string name() {
@@ -259,10 +293,10 @@ class Maker {
         if (w.depth > 6 && depth < w.depth) children = 1;
         if (children == 0 && r.one_in(2)) return put("/>");
         put(">");
-        gap();
+        gap(true);
         for (unsigned i = 0; i < children && depth < w.depth; i++) {
             element(element_name(), r.below(3), depth + 1);
-            gap();
+            gap(true);
         }
         close(name);
     }
@@ -342,13 +376,17 @@ class Maker {
     void features(const std::string &name) {
         static const char *const names[] = {"FeatureBoardForecast", "FeatureQueryBoardInfo", "FeatureSendBoardInfo", "FeatureOther"};
         put(">");
-        gap();
+        gap(true);
         if (!r.one_in(10)) {
             put("<SupportedFeatures>");
-            for (unsigned n = r.below(4); n; n--) element(r.of(names), r.below(2), 4);
+            gap(true);
+            for (unsigned n = r.below(4); n; n--) {
+                element(r.of(names), r.below(2), 4);
+                gap(true);
+            }
             close("SupportedFeatures");
         }
-        gap();
+        gap(true);
         close(name);
     }
 };

@@ -98,7 +98,7 @@ inline Verdict said_in(const Bytes &in, unsigned refusal, const tryphomel_messag
 
 inline bool is_glue(char c) { return c == ' ' || c == '\t' || c == '\r' || c == '\n'; }
 
-// Walks over an accepted message. It is right for these alone: their elements hold no text, and nothing but tags stands behind the declaration.
+// Walks over an accepted message. It is right for these alone: a `<` that begins no comment begins a tag.
 struct Walk {
     const Bytes &in;
     size_t at;
@@ -106,6 +106,15 @@ struct Walk {
 
     void glue() {
         while (is_glue(in[at])) at++;
+    }
+
+    // To the next tag.
+    void filler() {
+        for (;;) {
+            while (in[at] != '<') at++;
+            if (in.compare(at, 4, "<!--") != 0) return;
+            at = in.find("-->", at + 4) + 3;
+        }
     }
 
     Bytes name() {
@@ -143,9 +152,9 @@ struct Walk {
 
 inline Tree tree_of(const Bytes &in, size_t start, size_t end) {
     Walk w{in, in[start + 1] == '?' ? in.find("?>", start) + 2 : start, {}};
-    for (w.glue(); w.at < end; w.glue()) {
+    while (w.at < end) {
+        w.filler();
         w.tag();
-        if (w.at == end) break;
     }
     return w.tree;
 }

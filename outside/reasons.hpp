@@ -6,9 +6,9 @@
 
 #include "ours.hpp"
 
-// Where a place stands: in a tag or a value, how many elements are open, how many attributes the tag has so far.
+// Where a place stands: in a tag, a value or a comment, how many elements are open, how many attributes the tag has so far.
 struct Spot {
-    bool tag = false, value = false, child = false;
+    bool tag = false, value = false, comment = false, child = false;
     size_t tag_at = 0;
     unsigned open = 0, attributes = 0;
 };
@@ -37,6 +37,11 @@ inline Spot spot(const std::string &d, size_t place) {
             quote = c;
         } else if (s.tag && c == '>') {
             leave_tag(s, d, i);
+        } else if (!s.tag && i + 1 < place && d.compare(i, 4, "<!--") == 0) {
+            size_t end = d.find("-->", i + 4);
+            s.comment = end == std::string::npos || end + 3 > place;
+            if (s.comment) return s;
+            i = end + 2;
         } else if (!s.tag && c == '<') {
             s.tag = true;
             s.tag_at = i;
@@ -55,8 +60,7 @@ inline bool of_name(char c) {
 
 // Right behind a `<`.
 inline const char *why_opening(const std::string &d, size_t p, const Spot &s) {
-    if (begins(d, p, "!--")) return "comment";
-    if (begins(d, p, "![CDATA[")) return "CDATA";
+    if (begins(d, p, "!--")) return s.open == 0 ? "comment before a root without a declaration" : nullptr;
     if (begins(d, p, "!DOCTYPE")) return "DTD";
     if (d[p] == '?') return "processing instruction";
     if (d[p] == '/') return s.open == 1 && !s.child ? "root without a child" : nullptr;
@@ -68,8 +72,15 @@ inline const char *why_opening(const std::string &d, size_t p, const Spot &s) {
     return (unsigned char)d[p] >= 0x80 ? "name not ASCII" : nullptr;
 }
 
+// Right behind a `<!` where a comment could begin.
+inline const char *why_declared(const std::string &d, size_t p) {
+    if (begins(d, p, "[CDATA[")) return "CDATA";
+    return begins(d, p, "DOCTYPE") ? "DTD" : nullptr;
+}
+
 // Further on in a tag.
 inline const char *why_tag(const std::string &d, size_t p, const Spot &s) {
+    if (d[s.tag_at + 1] == '!') return p == s.tag_at + 2 ? why_declared(d, p) : nullptr;
     size_t e = s.tag_at + 1;
     while (e < d.size() && of_name(d[e])) e++;
     if (s.open == 0 && p <= e && d.substr(s.tag_at + 1, e - s.tag_at - 1) != "Hermes") return "root not named Hermes";
@@ -83,7 +94,7 @@ inline const char *why_tag(const std::string &d, size_t p, const Spot &s) {
     return (unsigned char)d[p] >= 0x80 ? "name not ASCII" : nullptr;
 }
 
-// In a value: only a reference with more digits than document 01 allows.
+// In a value or in text: only a reference with more digits than document 01 allows.
 inline const char *why_value(const std::string &d, size_t p) {
     size_t a = d.rfind('&', p), end = d.find(';', a == std::string::npos ? p : a);
     if (a == std::string::npos || end == std::string::npos || d[a + 1] != '#') return nullptr;
@@ -114,6 +125,8 @@ inline const char *why_refused(const std::string &d, unsigned answer, size_t p) 
     if (begins(d, 0, "<?") && p < d.find("?>") + 2) return why_declaration(d, p);
     Spot s = spot(d, p);
     if (s.value) return why_value(d, p);
-    if (!s.tag) return s.open > 0 && !is_glue(d[p]) ? "text or a reference between tags" : nullptr;
+    if (s.comment) return nullptr;
+    if (!s.tag && s.open > 1) return why_value(d, p);
+    if (!s.tag) return s.open == 1 && !is_glue(d[p]) ? "text or a reference in the root" : nullptr;
     return p == s.tag_at + 1 ? why_opening(d, p, s) : why_tag(d, p, s);
 }

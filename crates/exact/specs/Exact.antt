@@ -52,7 +52,7 @@ cons≢nil [] b r e = let z : _≡_ {A = ℕ} 0 1 = cc in omega arith
 cons≢nil (x ∷ u) b r e = let z : _≡_ {A = ℕ} 0 1 = cc in omega arith
 
 -- one byte more: either the first part takes it, or it lies in what was there
-snoc-split : (u : Word) (b : ℕ) (w r : Word) → u ++ b ∷ [] ≡ w ++ r → (r ≡ []) ⊎ ((r′ : Word) × (u ≡ w ++ r′))
+pub snoc-split : (u : Word) (b : ℕ) (w r : Word) → u ++ b ∷ [] ≡ w ++ r → (r ≡ []) ⊎ ((r′ : Word) × (u ≡ w ++ r′))
 snoc-split u b [] r e = inr (u, refl)
 snoc-split [] b (y ∷ []) r e = inl (cc)
 snoc-split [] b (y ∷ z ∷ w) r e = absurd (let h : _≡_ {A = ℕ} 0 1 = cc in omega arith)

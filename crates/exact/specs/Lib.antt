@@ -3,5 +3,6 @@ pub mod Exact
 pub mod Chain
 pub mod Byte
 pub mod Token
+pub mod Ahead
 pub mod Loop
 pub mod Limit

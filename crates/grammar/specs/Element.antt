@@ -6,7 +6,7 @@ use Rattle.grammar.specs.Glue.{Glue}
 use Rattle.grammar.specs.Name.{Name}
 use Rattle.grammar.specs.Value.{readValue}
 use Rattle.grammar.specs.Attribute.{Attribute, spellAttributes, GoodAttributes}
-use Rattle.grammar.specs.Filler.{Filler, spellFiller, GoodFiller}
+use Rattle.grammar.specs.Filler.{Filler, spellFiller, belowRoot, GoodFiller}
 use Rattle.grammar.specs.Tree.{Pair, Tree, tree, Forest, no-trees, tree-then}
 
 -- a start tag or an empty tag, but for its brackets
@@ -55,8 +55,8 @@ mutual
     good-full : {d : ℕ} {t : Tag} {c : Content} {g : Bytes} → GoodTag t → GoodContent d c → Glue g → GoodElement d (full t c g)
 
   pub data GoodContent : ℕ → Content → Type 0 where
-    good-bare : {d : ℕ} {f : Filler} → GoodFiller f → GoodContent d (bare f)
-    good-child : {d : ℕ} {f : Filler} {e : Element} {c : Content} → GoodFiller f → GoodElement d e → GoodContent (suc d) c → GoodContent (suc d) (child f e c)
+    good-bare : {d : ℕ} {f : Filler} → GoodFiller belowRoot f → GoodContent d (bare f)
+    good-child : {d : ℕ} {f : Filler} {e : Element} {c : Content} → GoodFiller belowRoot f → GoodElement d e → GoodContent (suc d) c → GoodContent (suc d) (child f e c)
 
 -- "attributes in order, each value as read"
 abbrev pub readAttributes : List Attribute → List Pair

@@ -7,6 +7,7 @@ use Prim.Native.Char.{code}
 use Prim.Native.String.{String}
 use native.Mathlib.Omega.{arith}
 use lib.ListN.{length}
+use lib.Dec.{eqb}
 use Rattle.grammar.specs.Bytes.{Bytes, text, within, digit, every, nonEmpty}
 use Rattle.grammar.specs.Limits.{MESSAGE, NAME, ATTRIBUTES, DEPTH}
 use Rattle.grammar.specs.Glue.{isGlue, Glue}
@@ -15,11 +16,12 @@ use Rattle.grammar.specs.Character.{isChar, utf8}
 use Rattle.grammar.specs.Reference.{amp, lt, gt, quot, apos, named, decimal, hexadecimal, hexDigit, worth, GoodReference, good-named, good-decimal, good-hexadecimal, readReference}
 use Rattle.grammar.specs.Value.{raw, ref, isQuote, banned, good-raw, good-ref, good-last, good-item, readItem, readValue}
 use Rattle.grammar.specs.Attribute.{Attribute, GoodAttribute, good-none, good-each, fresh, GoodAttributes}
-use Rattle.grammar.specs.Filler.{Filler, GoodFiller}
+use Rattle.grammar.specs.Comment.{Mark, mark, dashMark, GoodMark, good-mark, good-dash, GoodMarks, marks-end, marks-then}
+use Rattle.grammar.specs.Filler.{Site, inRoot, belowRoot, Bit, inText, comment, Filler, spellFiller, GoodBit, good-glue, good-text, good-comment, GoodBits, bits-end, bits-then, GoodFiller}
 use Rattle.grammar.specs.Tree.{tree, no-trees, tree-then}
 use Rattle.grammar.specs.Element.{Tag, Element, empty, full, Content, bare, child, GoodTag, GoodElement, good-empty, good-full, GoodContent, good-bare, good-child}
 use Rattle.grammar.specs.Declaration.{Setting, absent, isVersion, isEncoding, isStandalone, good-absent}
-use Rattle.grammar.specs.Message.{Root, Layout, declared, spellLayout, GoodRoot, GoodLayout, good-declared, readLayout, Message}
+use Rattle.grammar.specs.Message.{Root, Layout, plain, declared, spellLayout, GoodRoot, GoodLayout, good-plain, good-declared, readLayout, Message}
 use Rattle.grammar.specs.Answer.{answerNumber, endsAt, moreFrom, malformedAt, tooLongFrom}
 
 -- characters: both ends of each range, and what stands beside them
@@ -143,7 +145,7 @@ abbrev bareTag : String → Tag
 bareTag n = record { name = text n; attributes = []; trail = [] }
 
 abbrev none : Filler
-none = record { glue = [] }
+none = []
 
 abbrev around : String → Element → Element
 around n e = full (bareTag n) (child none e (bare none)) []
@@ -154,8 +156,8 @@ rootOf e = record { attributes = []; trail = []; before = none; inner = e; after
 abbrev five : Element
 five = around "A" (around "B" (around "C" (around "D" (empty (bareTag "E")))))
 
-good-none-filler : GoodFiller none
-good-none-filler = record { glue = refl }
+good-none-filler : {s : Site} → GoodFiller s none
+good-none-filler = bits-end
 
 no-attributes : GoodAttributes []
 no-attributes = record { few = omega arith; fresh-names = refl; each = good-none }
@@ -206,10 +208,10 @@ checkAlive = record { name = text "CheckAlive"; attributes = idAttribute ∷ [];
 
 abbrev example : Layout
 example =
-    declared (record { version = oneZero; encoding = absent; standalone = absent; trail = [] }) (record { glue = text "\n" })
+    declared (record { version = oneZero; encoding = absent; standalone = absent; trail = [] }) (inText (raw (code "\n")) ∷ comment (mark (code "c") ∷ []) ∷ [])
     (record { attributes = timestamp ∷ []; trail = []; before = none; inner = empty checkAlive; after = none; shut = text " " })
 
-pub example-spelt : spellLayout example ≡ text "<?xml version='1.0'?>\n<Hermes Timestamp=\"x\"><CheckAlive Id =\t'a\t&amp;' /></Hermes >"
+pub example-spelt : spellLayout example ≡ text "<?xml version='1.0'?>\n<!--c--><Hermes Timestamp=\"x\"><CheckAlive Id =\t'a\t&amp;' /></Hermes >"
 unfolding utf8
 example-spelt = refl
 
@@ -221,7 +223,7 @@ example-read = refl
 pub example-good : GoodLayout example
 unfolding isGlue isQuote isChar banned nameByte nameStart letter digit within
 example-good = good-declared (record { version = record { before = refl; apart = refl; mid = refl; after = refl; quote = refl; word = refl }; encoding = good-absent; standalone = good-absent; trail = refl })
-    (record { glue = refl })
+    (bits-then (good-glue refl) (bits-then (good-comment (marks-then (good-mark refl refl) marks-end)) bits-end))
     (record {
       attributes = good-one timestamp (record { before = refl; apart = refl; name = record { shape = refl; one = refl; short = omega arith }; mid = refl; after = refl; quote = refl; value = good-item (good-raw refl refl) good-last });
       trail = refl;
@@ -263,10 +265,121 @@ too-many g = let h = g .few in omega arith
 pub not-too-many : length (copies 32) ≤ ATTRIBUTES
 not-too-many = omega arith
 
--- between elements stands glue, and no text and no comment
-pub fillers : GoodFiller (record { glue = text " \t\r\n" }) × ¬ GoodFiller (record { glue = text "x" }) × ¬ GoodFiller (record { glue = text "<!---->" })
-unfolding isGlue
-fillers = (record { glue = refl }, λ f. no-glue-there (f .glue), λ f. no-glue-there (f .glue))
+-- characters of text, one by one
+abbrev chars-of : Bytes → Filler
+chars-of [] = []
+chars-of (b ∷ w) = inText (raw b) ∷ chars-of w
+
+no-such : {b : Bool} → b ≡ true → b ≡ false → ⊥
+no-such h k = let z : _≡_ {A = ℕ} 0 1 = cc in omega arith
+
+-- comments: a `-` stands alone, `&`, `<` and `]]>` stand for themselves; `<!--->` opens one that holds `->`
+pub comments : spellFiller (comment [] ∷ comment (dashMark (code ">") ∷ mark (code "&") ∷ mark (code "<") ∷ []) ∷ []) ≡ text "<!----><!--->&<-->"
+unfolding utf8
+comments = refl
+
+pub good-comments : {s : Site} → GoodFiller s (comment [] ∷ comment (dashMark (code ">") ∷ mark (code "&") ∷ mark (code "<") ∷ []) ∷ [])
+unfolding isChar within
+good-comments = bits-then (good-comment marks-end) (bits-then (good-comment (marks-then (good-dash refl refl) (marks-then (good-mark refl refl) (marks-then (good-mark refl refl) marks-end)))) bits-end)
+
+-- no `--` in a comment, and no control character
+pub no-marks : ¬ GoodMark (mark (code "-")) × ¬ GoodMark (dashMark (code "-")) × ¬ GoodMark (mark 1) × ¬ GoodMark (dashMark 0xFFFE)
+unfolding isChar within
+no-marks = (two-dashes, three-dashes, control, none-such)
   where
-    no-glue-there : false ≡ true → ⊥
-    no-glue-there e = let z : _≡_ {A = ℕ} 0 1 = cc in omega arith
+    two-dashes : GoodMark (mark (code "-")) → ⊥
+    two-dashes (good-mark h k) = no-such {b = true} refl k
+
+    three-dashes : GoodMark (dashMark (code "-")) → ⊥
+    three-dashes (good-dash h k) = no-such {b = true} refl k
+
+    control : GoodMark (mark 1) → ⊥
+    control (good-mark h k) = no-such h refl
+
+    none-such : GoodMark (dashMark 0xFFFE) → ⊥
+    none-such (good-dash h k) = no-such h refl
+
+-- in the root stands glue, and no text
+pub root-fillers : GoodFiller inRoot (chars-of (text " \t\r\n")) × ¬ GoodFiller inRoot (chars-of (text "x")) × ¬ GoodFiller inRoot (inText (ref (named amp)) ∷ [])
+unfolding isGlue
+root-fillers = (bits-then (good-glue refl) (bits-then (good-glue refl) (bits-then (good-glue refl) (bits-then (good-glue refl) bits-end))), letter-there, reference-there)
+  where
+    no-reference : {s : Site} {n : ℕ} {b : Bit} → GoodBit s n b → s ≡ inRoot → b ≡ inText (ref (named amp)) → ⊥
+    no-reference (good-glue h) e q = let z : _≡_ {A = ℕ} 0 1 = cc in omega arith
+    no-reference (good-text h) e q = let z : _≡_ {A = ℕ} 0 1 = cc in omega arith
+    no-reference (good-comment h) e q = let z : _≡_ {A = ℕ} 0 1 = cc in omega arith
+
+    letter-there : GoodFiller inRoot (chars-of (text "x")) → ⊥
+    letter-there (bits-then (good-glue h) r) = no-such h refl
+
+    reference-there : GoodFiller inRoot (inText (ref (named amp)) ∷ []) → ⊥
+    reference-there (bits-then b r) = no-reference b refl refl
+
+-- below the root stands text: glue, `>` and `]]` are characters of it, `<` and `&` are not
+pub texts : GoodFiller belowRoot (chars-of (text "\n]] ]>")) × ¬ GoodFiller belowRoot (chars-of (text "<")) × ¬ GoodFiller belowRoot (chars-of (text "&"))
+unfolding isChar within banned
+texts =
+    (bits-then (good-text (good-raw refl refl)) (bits-then (good-text (good-raw refl refl)) (bits-then (good-text (good-raw refl refl)) (bits-then (good-text (good-raw refl refl)) (bits-then (good-text (good-raw refl refl)) (bits-then (good-text (good-raw refl refl)) bits-end))))), opens, refers)
+  where
+    opens : GoodFiller belowRoot (chars-of (text "<")) → ⊥
+    opens (bits-then (good-text (good-raw h k)) r) = no-such {b = true} refl k
+
+    refers : GoodFiller belowRoot (chars-of (text "&")) → ⊥
+    refers (bits-then (good-text (good-raw h k)) r) = no-such {b = true} refl k
+
+-- `]]>` does not, nor `]]]>`; with a reference or a comment between it is another thing
+pub no-end-of-cdata : ¬ GoodFiller belowRoot (chars-of (text "]]>")) × ¬ GoodFiller belowRoot (chars-of (text "]]]>"))
+unfolding banned
+no-end-of-cdata = (two-brackets, three-brackets)
+  where
+    two-brackets : GoodFiller belowRoot (chars-of (text "]]>")) → ⊥
+    two-brackets (bits-then a (bits-then b (bits-then (good-text (good-raw h k)) r))) = no-such {b = true} refl k
+
+    three-brackets : GoodFiller belowRoot (chars-of (text "]]]>")) → ⊥
+    three-brackets (bits-then a (bits-then b (bits-then c (bits-then (good-text (good-raw h k)) r)))) = no-such {b = true} refl k
+
+pub parted : GoodBits belowRoot 2 (inText (ref (named gt)) ∷ inText (raw (code ">")) ∷ []) × GoodBits belowRoot 2 (comment [] ∷ inText (raw (code ">")) ∷ [])
+unfolding isChar within banned
+parted =
+    (bits-then (good-text (good-ref good-named)) (bits-then (good-text (good-raw refl refl)) bits-end), bits-then (good-comment marks-end) (bits-then (good-text (good-raw refl refl)) bits-end))
+
+-- a message with text, and with a comment that holds an end tag: no part of its reading
+abbrev marks-of : Bytes → List Mark
+marks-of [] = []
+marks-of (b ∷ w) = mark b ∷ marks-of w
+
+abbrev remarked : Layout
+remarked = plain (rootOf (full (bareTag "X") (bare (inText (raw (code "a")) ∷ comment (marks-of (text "</X></Hermes>")) ∷ [])) []))
+
+pub remarked-spelt : spellLayout remarked ≡ text "<Hermes><X>a<!--</X></Hermes>--></X></Hermes>"
+unfolding utf8
+remarked-spelt = refl
+
+pub remarked-read : readLayout remarked ≡ tree (text "Hermes") [] (tree-then (tree (text "X") [] no-trees) no-trees)
+remarked-read = refl
+
+pub remarked-good : GoodLayout remarked
+unfolding isChar banned nameByte nameStart letter digit within
+remarked-good = good-plain (record {
+  attributes = no-attributes;
+  trail = refl;
+  before = good-none-filler;
+  inner = good-full (good-tag "X" refl refl (omega arith)) (good-bare (bits-then (good-text (good-raw refl refl)) (bits-then (good-comment (marked (text "</X></Hermes>") refl)) bits-end))) refl;
+  after = good-none-filler;
+  shut = refl;
+})
+  where
+    both : (y z : Bool) → y && z ≡ true → (y ≡ true) × (z ≡ true)
+    both true z h = (refl, h)
+    both false z h = absurd (no-such h refl)
+
+    no-dash : (z : Bool) → not z ≡ true → z ≡ false
+    no-dash true h = absurd (no-such h refl)
+    no-dash false h = refl
+
+    marked : (w : Bytes) → every (λ b. isChar b && not (eqb (code "-") b)) w ≡ true → GoodMarks (marks-of w)
+    marked [] h = marks-end
+    marked (b ∷ w) h =
+        let (a, r) = both (isChar b && not (eqb (code "-") b)) (every (λ b. isChar b && not (eqb (code "-") b)) w) h in
+        let (i, d) = both (isChar b) (not (eqb (code "-") b)) a in
+        marks-then (good-mark i (no-dash (eqb (code "-") b) d)) (marked w r)

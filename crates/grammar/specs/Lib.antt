@@ -7,6 +7,7 @@ pub mod Character
 pub mod Reference
 pub mod Value
 pub mod Attribute
+pub mod Comment
 pub mod Filler
 pub mod Tree
 pub mod Element

@@ -6,7 +6,7 @@ use Rattle.grammar.specs.Bytes.{Bytes, text, joined}
 use Rattle.grammar.specs.Limits.{DEPTH}
 use Rattle.grammar.specs.Glue.{Glue}
 use Rattle.grammar.specs.Attribute.{Attribute, spellAttributes, GoodAttributes}
-use Rattle.grammar.specs.Filler.{Filler, spellFiller, GoodFiller}
+use Rattle.grammar.specs.Filler.{Filler, spellFiller, inRoot, GoodFiller}
 use Rattle.grammar.specs.Tree.{Tree, tree, no-trees, tree-then}
 use Rattle.grammar.specs.Element.{Element, spellEnd, spellElement, GoodElement, readAttributes, readElement}
 use Rattle.grammar.specs.Declaration.{Declaration, spellDeclaration, GoodDeclaration}
@@ -20,7 +20,7 @@ pub record Root : Type 0 where
   pub after : Filler
   pub shut : Bytes
 
--- A message as it stands: "Optional declaration: .. Glue may follow." Then the root.
+-- A message as it stands: "Optional declaration: .. Glue may follow", and comments. Then the root.
 pub data Layout : Type 0 where
   plain : Root → Layout
   declared : Declaration → Filler → Root → Layout
@@ -51,19 +51,19 @@ spellLayout (declared d f r) = joined (spellDeclaration d ∷ spellFiller f ∷ 
 pub record GoodRoot (r : Root) : Type 0 where
   pub attributes : GoodAttributes (r .attributes)
   pub trail : Glue (r .trail)
-  pub before : GoodFiller (r .before)
+  pub before : GoodFiller inRoot (r .before)
   pub inner : GoodElement (DEPTH - 2) (r .inner)
-  pub after : GoodFiller (r .after)
+  pub after : GoodFiller inRoot (r .after)
   pub shut : Glue (r .shut)
 
 pub data GoodLayout : Layout → Type 0 where
   good-plain : {r : Root} → GoodRoot r → GoodLayout (plain r)
-  good-declared : {d : Declaration} {f : Filler} {r : Root} → GoodDeclaration d → GoodFiller f → GoodRoot r → GoodLayout (declared d f r)
+  good-declared : {d : Declaration} {f : Filler} {r : Root} → GoodDeclaration d → GoodFiller inRoot f → GoodRoot r → GoodLayout (declared d f r)
 
 abbrev pub readRoot : Root → Tree
 readRoot r = tree hermes (readAttributes (r .attributes)) (tree-then (readElement (r .inner)) no-trees)
 
--- the declaration, the glue and the quotes are no part of the reading
+-- the declaration, what stands between elements, and the quotes are no part of the reading
 abbrev pub readLayout : Layout → Tree
 readLayout (plain r) = readRoot r
 readLayout (declared d f r) = readRoot r

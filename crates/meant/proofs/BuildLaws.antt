@@ -15,6 +15,7 @@ use Rattle.grammar.specs.Name.{Name}
 use Rattle.grammar.specs.Value.{isQuote, readValue}
 use Rattle.grammar.specs.Attribute.{Attribute, spellAttribute, spellAttributes, GoodAttribute, GoodEach, good-none, good-each, fresh}
 use Rattle.grammar.specs.Tree.{Pair, Tree, tree, Forest, tree-then}
+use Rattle.grammar.specs.Filler.{bits-end}
 use Rattle.grammar.specs.Element.{Element, Content, bare, child, spellElement, spellContent, GoodElement, GoodContent, good-bare, good-child, readAttributes, readElement, readContent}
 use Rattle.model.specs.Tests.{and-left, and-right, and-both}
 use Rattle.spelling.specs.Written.{escape}
@@ -53,7 +54,7 @@ built-none fields texts = record {
   each = good-none;
   few = omega arith;
   fresh-names = λ earlier h. refl;
-  inner = good-bare (record { glue = refl });
+  inner = good-bare bits-end;
   spelt = refl;
   inside = refl;
   has = λ n. refl;
@@ -161,7 +162,7 @@ module _ {d : ℕ} (r : Row) (rows : List Row) (x : Field) (fields : List Field)
       each = b .each;
       few = let f = b .few in omega arith;
       fresh-names = λ earlier h. b .fresh-names earlier (clear-first earlier r rows h .1);
-      inner = good-child (record { glue = refl }) g (b .inner);
+      inner = good-child bits-end g (b .inner);
       spelt = rw a (b .spelt);
       inside = ap₂ (λ (y z : Bytes). y ++ z) i (b .inside);
       has = λ n. b .has n ∙ sym (ap (λ (z : Bool). z || givenIn rows (written rows fields) n) (ap (λ (z : Bool). same n (r .name) && z) l ∙ and-false (same n (r .name))));

@@ -9,7 +9,7 @@ use lib.ListN.{length, length-append}
 use Rattle.grammar.specs.Bytes.{Bytes, text, within, digit}
 use Rattle.grammar.specs.Name.{letter, nameStart, nameByte, Name}
 use Rattle.grammar.specs.Attribute.{Attribute, spellAttributes, GoodAttributes, good-none}
-use Rattle.grammar.specs.Filler.{Filler, spellFiller}
+use Rattle.grammar.specs.Filler.{Filler, spellFiller, bits-end}
 use Rattle.grammar.specs.Tree.{tree, no-trees}
 use Rattle.grammar.specs.Element.{Tag, Element, empty, full, Content, bare, child, spellElement, spellContent, GoodTag, GoodElement, good-empty, good-full, GoodContent, good-bare, good-child, readAttributes, readElement, readContent}
 use Rattle.table.specs.Says.{notes, noted}
@@ -20,7 +20,7 @@ use Rattle.meant.proofs.RowLaws.{named}
 
 -- no glue
 abbrev pub noFiller : Filler
-noFiller = record { glue = [] }
+noFiller = []
 
 abbrev pub tagOf : Bytes → List Attribute → Tag
 tagOf n l = record { name = n; attributes = l; trail = [] }
@@ -82,7 +82,7 @@ flagged true n c = child noFiller (empty (tagOf n [])) c
 flagged false n c = c
 
 flagged-good : {d : ℕ} {c : Content} (b : Bool) (n : Bytes) → Name n → GoodContent (suc d) c → GoodContent (suc d) (flagged b n c)
-flagged-good true n h g = good-child (record { glue = refl }) (good-empty (good-tag h no-attributes)) g
+flagged-good true n h g = good-child bits-end (good-empty (good-tag h no-attributes)) g
 flagged-good false n h g = g
 
 flagged-spelt : (b : Bool) (n : Bytes) (c : Content) → cond b (emptyTag n) [] ++ spellContent c ≡ spellContent (flagged b n c)
@@ -98,7 +98,7 @@ unfolding nameStart nameByte letter digit within
 inside-good a b c =
     flagged-good a (text "FeatureBoardForecast") (named (text "FeatureBoardForecast") refl)
     (flagged-good b (text "FeatureQueryBoardInfo") (named (text "FeatureQueryBoardInfo") refl)
-    (flagged-good c (text "FeatureSendBoardInfo") (named (text "FeatureSendBoardInfo") refl) (good-bare (record { glue = refl }))))
+    (flagged-good c (text "FeatureSendBoardInfo") (named (text "FeatureSendBoardInfo") refl) (good-bare bits-end)))
 
 inside-spelt : (f : Features) → featuresInside f ≡ spellContent (inside (f .forecast) (f .query) (f .send))
 inside-spelt f = go (f .forecast) (f .query) (f .send)

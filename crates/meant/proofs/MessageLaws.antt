@@ -9,6 +9,7 @@ use borrow.Author.Tests.{eqb-true, eqb-false}
 use Rattle.grammar.specs.Bytes.{Bytes, text, within, digit}
 use Rattle.grammar.specs.Name.{letter, nameStart, nameByte, Name}
 use Rattle.grammar.specs.Tree.{Tree, tree, no-trees, tree-then}
+use Rattle.grammar.specs.Filler.{bits-end}
 use Rattle.grammar.specs.Element.{Element, spellElement, GoodElement, readElement}
 use Rattle.grammar.specs.Message.{Root, plain, good-plain, hermes, Message as IsMessage}
 use Rattle.model.specs.Tests.{and-left, and-right}
@@ -61,7 +62,7 @@ rooted-message : (w : Bytes) (e : Element) → GoodElement 4 e → w ≡ spellEl
 rooted-message w e g s = record {
   layout = plain (rootOf e);
   laid = record {
-    good = good-plain (record { attributes = no-attributes; trail = refl; before = record { glue = refl }; inner = g; after = record { glue = refl }; shut = refl });
+    good = good-plain (record { attributes = no-attributes; trail = refl; before = bits-end; inner = g; after = bits-end; shut = refl });
     spelt = ap rooted s;
   };
   reads = refl;

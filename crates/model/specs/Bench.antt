@@ -15,7 +15,8 @@ use Rattle.model.specs.References.{alive, begun, okay, numberP, namedP, 
 use Rattle.model.specs.Values.{itemP, valueP}
 use Rattle.model.specs.Names.{live, new}
 use Rattle.model.specs.Attributes.{endP, quotedP, equalsP, attrP, headP}
-use Rattle.model.specs.Fillers.{fillP}
+use Rattle.model.specs.Comments.{noDashP, dashP, markP, marksP, commentP}
+use Rattle.model.specs.Fillers.{textP, markupP, bitP, peekP, fillP}
 use Rattle.model.specs.Elements.{closeP, elemP, leafTagP, nodeTagP, contentTurnP, contentP}
 use Rattle.model.specs.Declarations.{versionP, encodingP, yesNoP, settingP, behindStandaloneP, standaloneOrEndP, behindEncodingP, behindVersionP, declarationP}
 use Rattle.model.specs.Messages.{rootP, layoutP, messageP}
@@ -27,7 +28,7 @@ pub record Case : Type 0 where
   pub input : Bytes
   pub answer : Answer
 
-abbrev case : String → Answer → Case
+abbrev pub case : String → Answer → Case
 case s a = record { input = text s; answer = a }
 
 abbrev pub cases : List Case
@@ -42,16 +43,16 @@ cases =
     ∷ case "<Hermes><X a=\"&#x110000" (malformedAt 0 22)
     ∷ []
 
-abbrev found : List Case → List Answer
+abbrev pub found : List Case → List Answer
 found [] = []
 found (c ∷ l) = answerOf (c .input) ∷ found l
 
-abbrev stated : List Case → List Answer
+abbrev pub stated : List Case → List Answer
 stated [] = []
 stated (c ∷ l) = c .answer ∷ stated l
 
 computed : found cases ≡ stated cases
-unfolding loopP within digit isChar isGlue letter nameStart nameByte hexDigit worth isQuote banned leading following answerAt answerOf second3 third3 second4 plainByte charP versionP encodingP yesNoP settingP behindStandaloneP standaloneOrEndP behindEncodingP behindVersionP declarationP closeP elemP leafTagP nodeTagP contentTurnP contentP fillP rootP layoutP messageP live new alive namedP refP itemP VturnP valueP endP quotedP equalsP attrP AturnP headP begun okay numberP
+unfolding loopP within digit isChar isGlue letter nameStart nameByte hexDigit worth isQuote banned leading following answerAt answerOf second3 third3 second4 plainByte charP versionP encodingP yesNoP settingP behindStandaloneP standaloneOrEndP behindEncodingP behindVersionP declarationP closeP elemP leafTagP nodeTagP contentTurnP contentP noDashP dashP markP marksP commentP textP markupP bitP peekP fillP rootP layoutP messageP live new alive namedP refP itemP VturnP valueP endP quotedP equalsP attrP AturnP headP begun okay numberP
 computed = refl
 
 -- every row holds of the definitions
@@ -59,7 +60,7 @@ abbrev pub Holds : List Case → Type 0
 Holds [] = Unit {0}
 Holds (c ∷ l) = Answers (c .input) (c .answer) × Holds l
 
-hold : (l : List Case) → found l ≡ stated l → Holds l
+pub hold : (l : List Case) → found l ≡ stated l → Holds l
 hold [] e = tt
 hold (c ∷ l) e =
     let h : answerOf (c .input) ≡ c .answer = cc in

@@ -76,7 +76,7 @@ char-max c h = go (view c h)
     go (high h k) = omega arith
 
 -- the four lengths
-utf8-1 : (c : ℕ) → c ≤ 127 → utf8 c ≡ c ∷ []
+pub utf8-1 : (c : ℕ) → c ≤ 127 → utf8 c ≡ c ∷ []
 unfolding utf8
 utf8-1 c h = rw (le-leb c 127 h)
 

@@ -16,13 +16,13 @@ use Rattle.grammar.specs.Bytes.{Bytes, text, within}
 use Rattle.grammar.specs.Glue.{isGlue, Glue}
 use Rattle.grammar.specs.Name.{letter, nameStart, Name}
 use Rattle.grammar.specs.Reference.{named}
-use Rattle.grammar.specs.Filler.{Filler, spellFiller, GoodFiller}
+use Rattle.grammar.specs.Filler.{belowRoot, Filler, spellFiller, bits-end, GoodFiller}
 use Rattle.grammar.specs.Element.{Tag, Element, empty, full, Content, bare, child, spellEnd, spellElement, spellContent, GoodTag, GoodElement, good-empty, good-full, GoodContent, good-bare, good-child}
 use Rattle.model.specs.Tests.{uncons}
 use Rattle.model.specs.Glue.{GlueThen, glueP, glue-exact}
 use Rattle.model.specs.Names.{live, new, name-exact, name-of, of-name, name-starts}
 use Rattle.model.specs.Attributes.{Head, spellHead, IsHead, headP, head-exact, head-starts}
-use Rattle.model.specs.Fillers.{FillThen, filled, fillP, fill-exact}
+use Rattle.model.specs.Fillers.{noBang, FillThen, filled, fillP, fill-exact}
 
 -- behind `<`: the end tag of n
 abbrev pub closing : Bytes → Bytes → Bytes
@@ -84,7 +84,7 @@ unfoldable pub nodeTagP : Reader Element → Bytes → Acc → Filler → Reader
 nodeTagP elem n k f = choiceP (eqb (code "/")) (closeP n (shutTurn k f)) (mapP (childTurn k f) elem)
 
 unfoldable pub contentTurnP : (Acc → Filler → Reader ContentTurn) → Acc → Reader ContentTurn
-contentTurnP tag k = fillP (tag k)
+contentTurnP tag k = fillP belowRoot (tag k)
 
 -- d more elements may be open inside
 unfoldable pub contentP : ℕ → Bytes → Reader Tail
@@ -171,6 +171,21 @@ element-first d w e l = go (l .good) (l .spelt)
     go (good-empty {t} g) i = named t _ (g .name) (uncons i)
     go (good-full {t} {c} {g = x} g m b) i = named t _ (g .name) (uncons i ∙ append-assoc (t .name) _ _)
 
+-- neither an element nor an end tag is a comment
+pub element-no-bang : (d : ℕ) (w : Bytes) (e : Element) → IsElement d w e → Starts noBang true w
+unfolding nameStart letter within
+element-no-bang d w e l = go (element-first d w e l)
+  where
+    go : Starts nameStart true w → Starts noBang true w
+    go (starts b w′ i k) = starts b w′ i (rw (other nameStart (code "!") refl b k))
+
+pub close-no-bang : {A : Type 0} (n : Bytes) (f : Bytes → A) (w : Bytes) (v : A) → CloseL n f w v → Starts noBang true w
+close-no-bang n f w v (close g h e q) = starts (code "/") _ e refl
+
+tag-starts : (n : Bytes) (k : Acc) {d : ℕ} (f : Filler) (w : Bytes) (t : ContentTurn) → TagL n k f d w t → Starts noBang true w
+tag-starts n k f w t (shutting l) = close-no-bang n (shutTurn k f) w t l
+tag-starts n k f w t (opening {d} e l q) = element-no-bang d w e l
+
 pub element-starts : (d : ℕ) (w : Bytes) (e : Element) → IsElement d w e → Starts (eqb (code "/")) false w
 unfolding nameStart letter within
 element-starts d w e l = go (element-first d w e l)
@@ -201,12 +216,12 @@ node-tag-exact d x n k f =
 
 -- the turns of a content at depth d in an element n
 abbrev TurnL : ℕ → Bytes → Acc → Lang ContentTurn
-TurnL d n k = FillThen (λ f. TagL n k f d)
+TurnL d n k = FillThen belowRoot (λ f. TagL n k f d)
 
 reads : (d : ℕ) (n : Bytes) (k : Acc) (w : Bytes) (k′ : Acc) → Unit {0} → TurnL d n k w (again k′) → 0 < length w
 reads d n k w k′ u (filled f r e g l) = rw (e, length-append) (omega arith)
 
-ending : (d : ℕ) (n : Bytes) (k : Acc) (f : Filler) (g : Bytes) → GoodFiller f → Glue g → Loop (TurnL d n) k (spellFiller f ++ spellEnd n g) (record { content = k (bare f); glue = g })
+ending : (d : ℕ) (n : Bytes) (k : Acc) (f : Filler) (g : Bytes) → GoodFiller belowRoot f → Glue g → Loop (TurnL d n) k (spellFiller f ++ spellEnd n g) (record { content = k (bare f); glue = g })
 ending d n k f g y h = last (filled f (closing n g) refl y (shutting (close g h refl refl)))
 
 record ContentFrom (d : ℕ) (n : Bytes) (k : Acc) (w : Bytes) (t : Tail) : Type 0 where
@@ -219,7 +234,7 @@ tag-stop n k f (shutting (close g h e q)) = (g, h, e, cc)
 tag-stop n k f (opening a l q) = absurd (let z : _≡_ {A = ℕ} 0 1 = cc in omega arith)
 
 tag-again : (n : Bytes) (k : Acc) (f : Filler) {d : ℕ} {w : Bytes} {k′ : Acc} → TagL n k f d w (again k′)
-    → (e : Element) × (code "<" ∷ w ≡ spellElement e) × (k′ ≡ (λ c. k (child f e c))) × ((c : Content) → GoodFiller f → GoodContent d c → GoodContent d (child f e c))
+    → (e : Element) × (code "<" ∷ w ≡ spellElement e) × (k′ ≡ (λ c. k (child f e c))) × ((c : Content) → GoodFiller belowRoot f → GoodContent d c → GoodContent d (child f e c))
 tag-again n k f (shutting (close g h e q)) = absurd (let z : _≡_ {A = ℕ} 0 1 = cc in omega arith)
 tag-again n k f (opening a l q) = (a, l .spelt, (cc), λ c y g. good-child y (l .good) g)
 
@@ -230,7 +245,7 @@ loop-good d n k w t (last (filled f r e y l)) = step (tag-stop n k f l)
     step (g, x, i, q) = rw q (record { inside = bare f; built = refl; says = record { good = good-bare y; glue = x; spelt = e ∙ rw i } })
 loop-good d n k w t (next w₁ k′ w₂ e (filled f r i y l) m) = step (tag-again n k f l) (loop-good d n k′ w₂ t m)
   where
-    step : (x : Element) × (code "<" ∷ r ≡ spellElement x) × (k′ ≡ (λ c. k (child f x c))) × ((c : Content) → GoodFiller f → GoodContent d c → GoodContent d (child f x c))
+    step : (x : Element) × (code "<" ∷ r ≡ spellElement x) × (k′ ≡ (λ c. k (child f x c))) × ((c : Content) → GoodFiller belowRoot f → GoodContent d c → GoodContent d (child f x c))
         → ContentFrom d n k′ w₂ t → ContentFrom d n k w t
     step (x, j, g, h) s = record {
       inside = child f x (s .inside);
@@ -252,13 +267,13 @@ good-loop n k g h (good-child {d} {f} {e} {c} y x r) = go (element-lt e) (good-l
 module _ (d : ℕ) (n : Bytes) (tag : Acc → Filler → Reader ContentTurn) (ex : (k : Acc) (f : Filler) → Exact (TagL n k f d) (tag k f)) where
   turn-exact : (k : Acc) → Exact (TurnL d n k) (contentTurnP tag k)
   unfolding contentTurnP
-  turn-exact k = fill-exact (λ f y. ex k f)
+  turn-exact k = fill-exact belowRoot (tag-starts n k) (λ f y. ex k f)
 
   loop-content : Exact (ContentL d n) (loopP (contentTurnP tag) (λ c. c))
   loop-content = exact-like to from (loop-exact (λ k. Unit {0}) (λ k u. turn-exact k) (λ k w k′ u l. tt) (reads d n) some-end (λ c. c) tt)
     where
       some-end : (k : Acc) → Unit {0} → (w : Bytes) × (v : Tail) × Loop (TurnL d n) k w v
-      some-end k u = (_, _, ending d n k (record { glue = [] }) [] (record { glue = refl }) refl)
+      some-end k u = (_, _, ending d n k [] [] bits-end refl)
 
       to : (w : Bytes) (t : Tail) → Loop (TurnL d n) (λ c. c) w t → ContentL d n w t
       to w t l = let z = loop-good d n (λ c. c) w t l in rw (z .built) (z .says)
@@ -268,7 +283,7 @@ module _ (d : ℕ) (n : Bytes) (tag : Acc → Filler → Reader ContentTurn) (ex
 
   -- the unfolding equation, for code
   pub loop-content-eq : (k : Acc) (s : Bytes) → loopP (contentTurnP tag) k s ≡ bindP (contentTurnP tag k) (onward (loopP (contentTurnP tag))) s
-  loop-content-eq k s = loop-eq (λ k. Unit {0}) (λ k u. turn-exact k) (λ k w k′ u l. tt) (reads d n) (λ k u. (_, _, ending d n k (record { glue = [] }) [] (record { glue = refl }) refl)) k tt s
+  loop-content-eq k s = loop-eq (λ k. Unit {0}) (λ k u. turn-exact k) (λ k w k′ u l. tt) (reads d n) (λ k u. (_, _, ending d n k [] [] bits-end refl)) k tt s
 
 -- every depth
 content-exact : (d : ℕ) (n : Bytes) → Exact (ContentL d n) (contentP d n)

@@ -2,15 +2,17 @@
 use mathlib.Core.Path.{_≡_, refl, sym, subst}
 use mathlib.Core.List.{[], _∷_, _++_, append-nil}
 use mathlib.Core.Logic.{_⊎_, inl, inr}
-use mathlib.Core.Bool.{Bool, true, false}
-use Prim.Native.Nat.{ℕ}
+use mathlib.Core.Bool.{Bool, true, false, _||_}
+use Prim.Native.Nat.{ℕ, _≤_}
+use native.Mathlib.Omega.{arith}
+use lib.Dec.{eqb}
 use Rattle.exact.specs.Exact.{Lang, Reader, Exact}
-use Rattle.exact.specs.Byte.{Starts, starts}
+use Rattle.exact.specs.Byte.{eqb-true, Starts, starts}
 use Rattle.exact.specs.Token.{TokenFrom, token, tokenP, token-exact}
 use Rattle.grammar.specs.Bytes.{Bytes, every}
 use Rattle.grammar.specs.Glue.{isGlue}
 use Rattle.grammar.specs.Value.{isQuote}
-use Rattle.model.specs.Tests.{and-left, every-left, every-snoc}
+use Rattle.model.specs.Tests.{and-left, or-cases, every-left, every-snoc}
 use Rattle.model.specs.Values.{quote-is}
 
 -- glue, then what starts with no blank
@@ -51,3 +53,22 @@ quote-not-glue b h = go (quote-is b h)
     go : (b ≡ 34) ⊎ (b ≡ 39) → isGlue b ≡ false
     go (inl e) = rw e
     go (inr e) = rw e
+
+pub glue-low : (b : ℕ) → isGlue b ≡ true → b ≤ 32
+unfolding isGlue
+glue-low b h = go (or-cases _ _ h)
+  where
+    one : (c : ℕ) → c ≤ 32 → eqb c b ≡ true → b ≤ 32
+    one c k e = let q = eqb-true c b e in omega arith
+
+    go3 : (eqb 13 b ≡ true) ⊎ (eqb 10 b ≡ true) → b ≤ 32
+    go3 (inl e) = one 13 (omega arith) e
+    go3 (inr e) = one 10 (omega arith) e
+
+    go2 : (eqb 9 b ≡ true) ⊎ (eqb 13 b || eqb 10 b ≡ true) → b ≤ 32
+    go2 (inl e) = one 9 (omega arith) e
+    go2 (inr e) = go3 (or-cases _ _ e)
+
+    go : (eqb 32 b ≡ true) ⊎ (eqb 9 b || (eqb 13 b || eqb 10 b) ≡ true) → b ≤ 32
+    go (inl e) = one 32 (omega arith) e
+    go (inr e) = go2 (or-cases _ _ e)

@@ -7,6 +7,7 @@ pub mod Glue
 pub mod Fresh
 pub mod Names
 pub mod Attributes
+pub mod Comments
 pub mod Fillers
 pub mod Elements
 pub mod Declarations
@@ -17,3 +18,4 @@ pub mod Completions
 pub mod MadeOfBytes
 pub mod Theorems
 pub mod Bench
+pub mod Remarks

@@ -17,14 +17,16 @@ use Rattle.grammar.specs.Character.{isChar, utf8}
 use Rattle.grammar.specs.Reference.{Named, amp, lt, gt, quot, apos, Reference, named, decimal, hexadecimal, spellNamed, spellReference, hexDigit, Digits, GoodReference, good-named, good-decimal, good-hexadecimal}
 use Rattle.grammar.specs.Value.{Item, raw, ref, spellItem, spellValue, isQuote, GoodItem, good-raw, good-ref, GoodValue, good-last, good-item}
 use Rattle.grammar.specs.Attribute.{Attribute, spellAttribute, spellAttributes, GoodAttribute, GoodEach, good-none, good-each}
-use Rattle.grammar.specs.Filler.{Filler, spellFiller, GoodFiller}
+use Rattle.grammar.specs.Comment.{Mark, spellMarks, GoodMark, good-mark, good-dash, GoodMarks, marks-end, marks-then}
+use Rattle.grammar.specs.Filler.{Site, Bit, Filler, spellBit, spellFiller, GoodBit, good-glue, good-text, good-comment, GoodBits, bits-end, bits-then}
 use Rattle.grammar.specs.Tree.{Tree}
 use Rattle.grammar.specs.Element.{Tag, Element, Content, spellTag, spellEnd, spellElement, spellContent, GoodTag, GoodElement, good-empty, good-full, GoodContent, good-bare, good-child}
 use Rattle.grammar.specs.Declaration.{Setting, Optional, absent, present, Declaration, spellSetting, spellOptional, spellDeclaration, isVersion, isEncoding, isStandalone, GoodSetting, GoodOptional, good-absent, good-present, GoodDeclaration}
 use Rattle.grammar.specs.Message.{Root, Layout, plain, declared, hermes, spellRoot, spellLayout, GoodRoot, GoodLayout, good-plain, good-declared, Message}
-use Rattle.model.specs.Characters.{char-max}
+use Rattle.model.specs.Characters.{char-max, utf8-1}
 use Rattle.model.specs.Tests.{and-left, and-right, and-both, or-cases, in-range, same-true, every-append}
 use Rattle.model.specs.Values.{quote-is}
+use Rattle.model.specs.Glue.{glue-low}
 
 abbrev byte : ℕ → Bool
 byte b = leb b 255
@@ -60,23 +62,7 @@ utf8-bytes c h = at1 (leb c 0x7F) refl
 
 -- byte classes
 glue-small : (b : ℕ) → isGlue b ≡ true → b ≤ 255
-unfolding isGlue
-glue-small b h = go (or-cases _ _ h)
-  where
-    one : (c : ℕ) → c ≤ 255 → eqb c b ≡ true → b ≤ 255
-    one c k e = let q = eqb-true c b e in omega arith
-
-    go3 : (eqb 13 b ≡ true) ⊎ (eqb 10 b ≡ true) → b ≤ 255
-    go3 (inl e) = one 13 (omega arith) e
-    go3 (inr e) = one 10 (omega arith) e
-
-    go2 : (eqb 9 b ≡ true) ⊎ (eqb 13 b || eqb 10 b ≡ true) → b ≤ 255
-    go2 (inl e) = one 9 (omega arith) e
-    go2 (inr e) = go3 (or-cases _ _ e)
-
-    go : (eqb 32 b ≡ true) ⊎ (eqb 9 b || (eqb 13 b || eqb 10 b) ≡ true) → b ≤ 255
-    go (inl e) = one 32 (omega arith) e
-    go (inr e) = go2 (or-cases _ _ e)
+glue-small b h = let k = glue-low b h in omega arith
 
 digit-small : (b : ℕ) → digit b ≡ true → b ≤ 255
 unfolding digit
@@ -180,8 +166,22 @@ of-attributes : {l : List Attribute} → GoodEach l → ByteString (spellAttribu
 of-attributes good-none = refl
 of-attributes (good-each {a} {l} g r) = both (spellAttribute a) (spellAttributes l) (of-attribute g) (of-attributes r)
 
-of-filler : {f : Filler} → GoodFiller f → ByteString (spellFiller f)
-of-filler {f} g = of-glue (f .glue) (g .glue)
+of-marks : {l : List Mark} → GoodMarks l → ByteString (spellMarks l)
+of-marks marks-end = refl
+of-marks (marks-then {l = l} (good-mark {c} h d) r) = both (utf8 c) (spellMarks l) (utf8-bytes c h) (of-marks r)
+of-marks (marks-then {l = l} (good-dash {c} h d) r) = both (utf8 c) (spellMarks l) (utf8-bytes c h) (of-marks r)
+
+glue-bytes : (c : ℕ) → isGlue c ≡ true → ByteString (utf8 c)
+glue-bytes c h = let k = glue-low c h in subst ByteString (sym (utf8-1 c (omega arith))) (and-both (byte c) true (is c (omega arith)) refl)
+
+of-bit : {s : Site} {n : ℕ} {b : Bit} → GoodBit s n b → ByteString (spellBit b)
+of-bit (good-glue {c = c} h) = glue-bytes c h
+of-bit (good-text g) = of-item g
+of-bit (good-comment {l = l} g) = both (spellMarks l) (text "-->") (of-marks g) refl
+
+of-filler : {s : Site} {n : ℕ} {f : Filler} → GoodBits s n f → ByteString (spellFiller f)
+of-filler bits-end = refl
+of-filler (bits-then {b = b} {f = f} g r) = both (spellBit b) (spellFiller f) (of-bit g) (of-filler r)
 
 of-end : (n g : Bytes) → ByteString n → Glue g → ByteString (spellEnd n g)
 of-end n g h k = both n _ h (both g (text ">") (of-glue g k) refl)

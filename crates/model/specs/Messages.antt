@@ -7,20 +7,20 @@ use Prim.Native.Char.{code}
 use lib.Dec.{eqb}
 use Rattle.exact.specs.Exact.{Lang, Reader, Exact, exact-like}
 use Rattle.exact.specs.Chain.{Seq, seq, bindP, bind-exact, Map, mapped, mapP, map-exact, clash}
-use Rattle.exact.specs.Byte.{On, on, onP, on-exact, Lit, lit, litP, eqb-true, lit-exact, Alt, left, right, Starts, starts, on-starts, map-starts, choiceP, choice-exact}
+use Rattle.exact.specs.Byte.{On, on, onP, on-exact, Lit, lit, litP, eqb-true, lit-exact, Alt, left, right, Starts, starts, on-starts, map-starts, choiceP, choice-exact, seq-starts}
 use Rattle.grammar.specs.Bytes.{Bytes, text}
 use Rattle.grammar.specs.Limits.{DEPTH}
 use Rattle.grammar.specs.Glue.{isGlue}
 use Rattle.grammar.specs.Attribute.{spellAttributes}
-use Rattle.grammar.specs.Filler.{Filler, spellFiller}
+use Rattle.grammar.specs.Filler.{inRoot, Filler, spellFiller}
 use Rattle.grammar.specs.Tree.{Tree}
 use Rattle.grammar.specs.Element.{Element, spellEnd}
 use Rattle.grammar.specs.Declaration.{spellDeclaration}
 use Rattle.grammar.specs.Message.{Root, Layout, plain, declared, hermes, spellRoot, spellLayout, GoodRoot, GoodLayout, good-plain, good-declared, readLayout, Laid, Message}
 use Rattle.model.specs.Tests.{uncons}
 use Rattle.model.specs.Attributes.{Head, spellHead, IsHead, headP, head-exact}
-use Rattle.model.specs.Fillers.{FillThen, filled, fillP, fill-exact}
-use Rattle.model.specs.Elements.{closeP, CloseL, close, close-exact, elemP, contentP, IsElement, element-lt, read-exact}
+use Rattle.model.specs.Fillers.{noBang, FillThen, filled, fillP, fill-exact}
+use Rattle.model.specs.Elements.{closeP, CloseL, close, close-exact, elemP, contentP, IsElement, element-lt, element-no-bang, close-no-bang, read-exact}
 use Rattle.model.specs.Declarations.{declarationP, IsDeclaration, declaration-exact}
 
 -- the root, behind its `<`
@@ -29,7 +29,7 @@ mkRoot h f e f′ g = record { attributes = h .attributes; trail = h .trail; bef
 
 unfoldable pub rootP : Reader Root
 rootP =
-    bindP (litP {A = ℕ} hermes 0) (λ u. bindP (headP false) (λ h. fillP (λ f. bindP (elemP (contentP (DEPTH - 2))) (λ e. fillP (λ f′. closeP hermes (mkRoot h f e f′))))))
+    bindP (litP {A = ℕ} hermes 0) (λ u. bindP (headP false) (λ h. fillP inRoot (λ f. bindP (elemP (contentP (DEPTH - 2))) (λ e. fillP inRoot (λ f′. closeP hermes (mkRoot h f e f′))))))
 
 pub record IsRoot (w : Bytes) (r : Root) : Type 0 where
   pub good : GoodRoot r
@@ -37,14 +37,14 @@ pub record IsRoot (w : Bytes) (r : Root) : Type 0 where
 
 abbrev RootL : Lang Root
 RootL =
-    Seq (Lit {A = ℕ} hermes 0) (λ u. Seq (IsHead false) (λ h. FillThen (λ f. Seq (IsElement (DEPTH - 2)) (λ e. FillThen (λ f′. CloseL hermes (mkRoot h f e f′))))))
+    Seq (Lit {A = ℕ} hermes 0) (λ u. Seq (IsHead false) (λ h. FillThen inRoot (λ f. Seq (IsElement (DEPTH - 2)) (λ e. FillThen inRoot (λ f′. CloseL hermes (mkRoot h f e f′))))))
 
 pub root-exact : Exact IsRoot rootP
 unfolding rootP
 root-exact =
     exact-like to from
     (bind-exact (lit-exact {A = ℕ} hermes 0) (λ w u l. bind-exact (head-exact false) (λ w h l.
-    fill-exact (λ f y. bind-exact (read-exact (DEPTH - 2)) (λ w e l. fill-exact (λ f′ z. close-exact hermes (mkRoot h f e f′)))))))
+    fill-exact inRoot (λ f. seq-starts (element-no-bang (DEPTH - 2))) (λ f y. bind-exact (read-exact (DEPTH - 2)) (λ w e l. fill-exact inRoot (λ f′. close-no-bang hermes (mkRoot h f e f′)) (λ f′ z. close-exact hermes (mkRoot h f e f′)))))))
   where
     -- the root has no empty tag
     started : (w : Bytes) (h : Head) → IsHead false w h → h .empty ≡ false
@@ -76,21 +76,24 @@ root-exact =
 -- a message, from its first `<`
 unfoldable pub layoutP : Reader Layout
 layoutP =
-    onP (eqb (code "<")) (λ b. choiceP (eqb (code "?")) (onP (eqb (code "?")) (λ c. bindP declarationP (λ d. fillP (λ f. mapP (declared d f) rootP)))) (mapP plain rootP))
+    onP (eqb (code "<")) (λ b. choiceP (eqb (code "?")) (onP (eqb (code "?")) (λ c. bindP declarationP (λ d. fillP inRoot (λ f. mapP (declared d f) rootP)))) (mapP plain rootP))
 
 abbrev LayoutL : Lang Layout
 LayoutL =
-    On (eqb (code "<")) (λ b. Alt (On (eqb (code "?")) (λ c. Seq IsDeclaration (λ d. FillThen (λ f. Map (declared d f) IsRoot)))) (Map plain IsRoot))
+    On (eqb (code "<")) (λ b. Alt (On (eqb (code "?")) (λ c. Seq IsDeclaration (λ d. FillThen inRoot (λ f. Map (declared d f) IsRoot)))) (Map plain IsRoot))
 
 pub layout-exact : Exact Laid layoutP
 unfolding layoutP
 layout-exact =
     exact-like to from (on-exact (code "<") refl (λ b h. choice-exact (on-starts (λ c k. k)) (map-starts root-starts)
-    (on-exact (code "?") refl (λ c k. bind-exact declaration-exact (λ w d l. fill-exact (λ f y. map-exact (declared d f) root-exact))))
+    (on-exact (code "?") refl (λ c k. bind-exact declaration-exact (λ w d l. fill-exact inRoot (λ f. map-starts root-no-bang) (λ f y. map-exact (declared d f) root-exact))))
     (map-exact plain root-exact)))
   where
     root-starts : (w : Bytes) (r : Root) → IsRoot w r → Starts (eqb (code "?")) false w
     root-starts w r l = starts (code "H") _ (uncons (l .spelt)) refl
+
+    root-no-bang : (w : Bytes) (r : Root) → IsRoot w r → Starts noBang true w
+    root-no-bang w r l = starts (code "H") _ (uncons (l .spelt)) refl
 
     to : (w : Bytes) (m : Layout) → LayoutL w m → Laid w m
     to w m (on b w₁ e₁ h₁ (left (on c w₂ e₂ h₂ (seq w₃ d w₄ e₃ l (filled f k e₄ y (mapped r n q)))))) =

@@ -21,7 +21,7 @@ use Rattle.grammar.specs.Cut.{Piece, Cut}
 use Rattle.model.specs.Tests.{every-right}
 use Rattle.model.specs.Characters.{IsRaw}
 use Rattle.model.specs.References.{decimalBegun, decimal-open, hexadecimalBegun, hexadecimal-open}
-use Rattle.model.specs.Values.{quote-is, ban-ascii, plain-letter}
+use Rattle.model.specs.Values.{quote-is, quote-stops, ban-ascii, plain-letter}
 use Rattle.model.specs.Names.{live, name-open}
 use Rattle.model.specs.Messages.{layout-exact, messageP, message-exact}
 use Rattle.model.specs.Answers.{behind, begins, is-open, open-left, longest-dead, answerOf, answered, answers-are, Window, to-window, from-window}
@@ -97,7 +97,7 @@ hexadecimal-begins = hexadecimal-open
 
 -- which bytes of a character that stands raw between quotes q can still be completed
 pub character-begins : (q : ℕ) → isQuote q ≡ true → (w : Bytes) → (charBegins (banned q) w ≡ true) ↔ ((m : Bytes) × (c : ℕ) × IsRaw (banned q) (w ++ m) c)
-character-begins q h w = char-begins (banned q) (ban-ascii q (quote-is q h)) (code "A") (plain-letter q (quote-is q h)) w
+character-begins q h w = char-begins (banned q) (ban-ascii q (quote-stops (quote-is q h))) (code "A") (plain-letter q (quote-stops (quote-is q h))) w
 
 -- whether a beginning is open is computed
 pub open-iff : (x : Bytes) → (goes (messageP x) ≡ true) ↔ Open x

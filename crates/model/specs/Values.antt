@@ -2,12 +2,12 @@
 use mathlib.Core.Path.{_≡_, refl, sym, ap, subst, _∙_}
 use mathlib.Core.List.{List, [], _∷_, _++_, append-assoc}
 use mathlib.Core.Logic.{_⊎_, inl, inr}
-use mathlib.Core.Bool.{true, false}
+use mathlib.Core.Bool.{Bool, true, false, _&&_, _||_, not}
 use Prim.Native.Nat.{ℕ, _≤_, _<_}
 use Prim.Native.Char.{code}
 use native.Mathlib.Omega.{arith}
 use lib.ListN.{length}
-use lib.Dec.{eqb}
+use lib.Dec.{eqb, leb}
 use borrow.Author.Tests.{ne-eqb}
 use Rattle.exact.specs.Exact.{Lang, Reader, Exact, exact-like}
 use Rattle.exact.specs.Chain.{Ret, ret, retP, ret-exact, bindP, Map, mapped, mapP, map-exact}
@@ -40,24 +40,37 @@ quote-is q h = go (or-cases _ _ h)
     go (inl k) = inl (eqb-true 34 q k)
     go (inr k) = inr (eqb-true 39 q k)
 
-pub ban-ascii : (q : ℕ) → (q ≡ 34) ⊎ (q ≡ 39) → (c : ℕ) → 127 < c → banned q c ≡ false
-unfolding banned
-ban-ascii q (inl e) c h = rw (e, ne-eqb 60 c (λ z. omega arith), ne-eqb 38 c (λ z. omega arith)) (ne-eqb 34 c (λ z. omega arith))
-ban-ascii q (inr e) c h = rw (e, ne-eqb 60 c (λ z. omega arith), ne-eqb 38 c (λ z. omega arith)) (ne-eqb 39 c (λ z. omega arith))
+-- a byte that items can't start with, and that is no `&`: a quote, or what ends text
+pub record Stops (q : ℕ) : Type 0 where
+  pub small : q ≤ 64
+  pub apart : q ≡ 38 → ⊥
 
-pub plain-letter : (q : ℕ) → (q ≡ 34) ⊎ (q ≡ 39) → plainByte (banned q) 65 ≡ true
+pub quote-stops : {q : ℕ} → (q ≡ 34) ⊎ (q ≡ 39) → Stops q
+quote-stops (inl e) = record { small = omega arith; apart = λ k. omega arith }
+quote-stops (inr e) = record { small = omega arith; apart = λ k. omega arith }
+
+pub ban-ascii : (q : ℕ) → Stops q → (c : ℕ) → 127 < c → banned q c ≡ false
+unfolding banned
+ban-ascii q x c h = let y = x .small in rw (ne-eqb 60 c (λ z. omega arith), ne-eqb 38 c (λ z. omega arith)) (ne-eqb q c (λ z. omega arith))
+
+pub plain-letter : (q : ℕ) → Stops q → plainByte (banned q) 65 ≡ true
 unfolding plainByte banned isChar within
-plain-letter q (inl e) = rw e
-plain-letter q (inr e) = rw e
+plain-letter q x = let y = x .small in rw (ne-eqb q 65 (λ z. omega arith))
 
 plain-amp : (q : ℕ) → plainByte (banned q) 38 ≡ false
 unfolding plainByte banned isChar within
 plain-amp q = refl
 
-plain-q : (q : ℕ) → (q ≡ 34) ⊎ (q ≡ 39) → plainByte (banned q) q ≡ false
-unfolding plainByte banned isChar within
-plain-q q (inl e) = rw e
-plain-q q (inr e) = rw e
+pub plain-q : (q : ℕ) → plainByte (banned q) q ≡ false
+unfolding plainByte banned
+plain-q q = rw (eqb-same q) (none (leb q 127) (isChar q) (eqb 60 q) (eqb 38 q))
+  where
+    none : (a b c d : Bool) → a && (b && not (c || (d || true))) ≡ false
+    none false b c d = refl
+    none true false c d = refl
+    none true true true d = refl
+    none true true false true = refl
+    none true true false false = refl
 
 -- a reference starts with `&`
 pub amp-first : (r : Reference) → (w : Bytes) × (spellReference r ≡ code "&" ∷ w)
@@ -65,12 +78,12 @@ amp-first (named n) = (_, refl)
 amp-first (decimal n) = (_, refl)
 amp-first (hexadecimal n) = (_, refl)
 
-module _ (q : ℕ) (is-quote : (q ≡ 34) ⊎ (q ≡ 39)) where
+module _ (q : ℕ) (stops : Stops q) where
   item-chain : Exact (ItemL q) (itemP q)
   unfolding itemP
   item-chain =
-      choice-exact (on-starts (λ b h. h)) (map-starts (raw-starts (banned q) (ban-ascii q is-quote) 38 (omega arith) (plain-amp q)))
-      (on-exact 38 refl (λ b h. map-exact ref ref-exact)) (map-exact raw (char-exact (banned q) (ban-ascii q is-quote) 65 (plain-letter q is-quote)))
+      choice-exact (on-starts (λ b h. h)) (map-starts (raw-starts (banned q) (ban-ascii q stops) 38 (omega arith) (plain-amp q)))
+      (on-exact 38 refl (λ b h. map-exact ref ref-exact)) (map-exact raw (char-exact (banned q) (ban-ascii q stops) 65 (plain-letter q stops)))
 
   pub item-exact : Exact (IsItem q) (itemP q)
   item-exact = exact-like to from item-chain
@@ -86,20 +99,12 @@ module _ (q : ℕ) (is-quote : (q ≡ 34) ⊎ (q ≡ 39)) where
       from : (w : Bytes) (i : Item) → IsItem q w i → ItemL q w i
       from w i l = go (l .good) w (l .spelt)
 
-  item-starts : (w : Bytes) (i : Item) → IsItem q w i → Starts (eqb q) false w
+  pub item-starts : (w : Bytes) (i : Item) → IsItem q w i → Starts (eqb q) false w
   item-starts w i l = subst (λ (y : Bytes). Starts (eqb q) false y) (sym (l .spelt)) (go (l .good))
     where
-      small : (q ≡ 34) ⊎ (q ≡ 39) → q ≤ 127
-      small (inl e) = omega arith
-      small (inr e) = omega arith
-
-      not-amp : (q ≡ 34) ⊎ (q ≡ 39) → eqb q 38 ≡ false
-      not-amp (inl e) = rw e
-      not-amp (inr e) = rw e
-
       go : {i : Item} → GoodItem q i → Starts (eqb q) false (spellItem i)
-      go (good-raw {c} a b) = raw-starts (banned q) (ban-ascii q is-quote) q (small is-quote) (plain-q q is-quote) (utf8 c) c (record { char = a; free = b; spelt = refl })
-      go (good-ref {r} g) = let z = amp-first r in starts 38 (z .0) (z .1) (not-amp is-quote)
+      go (good-raw {c} a b) = raw-starts (banned q) (ban-ascii q stops) q (let y = stops .small in omega arith) (plain-q q) (utf8 c) c (record { char = a; free = b; spelt = refl })
+      go (good-ref {r} g) = let z = amp-first r in starts 38 (z .0) (z .1) (ne-eqb q 38 (stops .apart))
 
 -- values: what stands behind the opening quote, the closing one included
 pub record IsValue (q : ℕ) (w : Bytes) (l : List Item) : Type 0 where
@@ -141,12 +146,12 @@ module _ (q : ℕ) (is-quote : (q ≡ 34) ⊎ (q ≡ 39)) where
   turn-exact : (k : Acc) → Exact (TurnL q k) (turnP q k)
   unfolding turnP
   turn-exact k =
-      choice-exact (on-starts (λ b h. h)) (map-starts (item-starts q is-quote))
-      (on-exact q (eqb-same q) (λ b h. ret-exact (stop (k [])))) (map-exact (λ i. again (λ l. k (i ∷ l))) (item-exact q is-quote))
+      choice-exact (on-starts (λ b h. h)) (map-starts (item-starts q (quote-stops is-quote)))
+      (on-exact q (eqb-same q) (λ b h. ret-exact (stop (k [])))) (map-exact (λ i. again (λ l. k (i ∷ l))) (item-exact q (quote-stops is-quote)))
 
   reads : (k : Acc) (w : Bytes) (k′ : Acc) → Unit {0} → TurnL q k w (again k′) → 0 < length w
   reads k w k′ u (left (on b w′ e h l)) = rw e (omega arith)
-  reads k w k′ u (right (mapped i l s)) = go (item-starts q is-quote w i l)
+  reads k w k′ u (right (mapped i l s)) = go (item-starts q (quote-stops is-quote) w i l)
     where
       go : Starts (eqb q) false w → 0 < length w
       go (starts b w′ e h) = rw e (omega arith)

@@ -17,7 +17,8 @@ use Rattle.model.specs.Characters.{plainByte, charP}
 use Rattle.model.specs.Values.{itemP, valueP, turnP as VturnP}
 use Rattle.model.specs.Names.{live, new}
 use Rattle.model.specs.Attributes.{endP, quotedP, equalsP, attrP, headP, turnP as AturnP}
-use Rattle.model.specs.Fillers.{fillP}
+use Rattle.model.specs.Comments.{noDashP, dashP, markP, marksP, commentP}
+use Rattle.model.specs.Fillers.{textP, markupP, bitP, peekP, fillP}
 use Rattle.model.specs.Elements.{closeP, elemP, leafTagP, nodeTagP, contentTurnP, contentP}
 use Rattle.model.specs.Messages.{rootP, layoutP, messageP}
 use Rattle.number.specs.Bytes.{trim, dropBack, dropFront, keepBefore, blank, nonEmpty as someByte, all as every, digit as isDigit, valueFrom}
@@ -55,7 +56,7 @@ ping = "<Hermes><CheckAlive Type=\"1\" Id=\"a\"/></Hermes>"
 
 ping-reads : (messageP (text ping) ≡ done (readingOf ping) []) × (saidOf (readingOf ping) .kind ≡ CheckAlive) × (saidOf (readingOf ping) .refusal ≡ 0)
     × ((place : Bytes → Words) → asksReply (messageOf (saidOf (readingOf ping) .kind) place (childOf (readingOf ping))) ≡ true)
-unfolding readValue readItem utf8 loopP within digit isChar isGlue letter nameStart nameByte isQuote banned plainByte charP closeP elemP leafTagP nodeTagP contentTurnP contentP fillP rootP layoutP messageP live new itemP VturnP valueP endP quotedP equalsP attrP AturnP headP table tried refusalOf intOf signed sized trim dropBack dropFront keepBefore blank someByte every isDigit valueFrom judged messageFrom fieldsIn fieldFor asksReply fieldsOf withZeros cellsOf fieldsFrom fieldBy wordsBy wholeBy
+unfolding readValue readItem utf8 loopP within digit isChar isGlue letter nameStart nameByte isQuote banned plainByte charP closeP elemP leafTagP nodeTagP contentTurnP contentP noDashP dashP markP marksP commentP textP markupP bitP peekP fillP rootP layoutP messageP live new itemP VturnP valueP endP quotedP equalsP attrP AturnP headP table tried refusalOf intOf signed sized trim dropBack dropFront keepBefore blank someByte every isDigit valueFrom judged messageFrom fieldsIn fieldFor asksReply fieldsOf withZeros cellsOf fieldsFrom fieldBy wordsBy wholeBy
 ping-reads = (refl, refl, refl, λ place. refl)
 
 -- in every lane it is accepted and asks for a reply: `receive-reply` says which

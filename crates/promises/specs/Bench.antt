@@ -20,7 +20,8 @@ use Rattle.model.specs.References.{alive, begun, okay, numberP, namedP, refP}
 use Rattle.model.specs.Values.{itemP, valueP}
 use Rattle.model.specs.Names.{live, new}
 use Rattle.model.specs.Attributes.{endP, quotedP, equalsP, attrP, headP}
-use Rattle.model.specs.Fillers.{fillP}
+use Rattle.model.specs.Comments.{noDashP, dashP, markP, marksP, commentP}
+use Rattle.model.specs.Fillers.{textP, markupP, bitP, peekP, fillP}
 use Rattle.model.specs.Elements.{closeP, elemP, leafTagP, nodeTagP, contentTurnP, contentP}
 use Rattle.model.specs.Declarations.{versionP, encodingP, yesNoP, settingP, behindStandaloneP, standaloneOrEndP, behindEncodingP, behindVersionP, declarationP}
 use Rattle.model.specs.Messages.{rootP, layoutP, messageP}
@@ -123,5 +124,5 @@ All [] = Unit {0}
 All (c ∷ l) = Holds c × All l
 
 pub bench-holds : All bench
-unfolding readValue readItem utf8 loopP within digit isChar isGlue letter nameStart nameByte hexDigit worth isQuote banned leading following answerAt answerOf second3 third3 second4 plainByte charP versionP encodingP yesNoP settingP behindStandaloneP standaloneOrEndP behindEncodingP behindVersionP declarationP closeP elemP leafTagP nodeTagP contentTurnP contentP fillP rootP layoutP messageP live new alive namedP refP itemP VturnP valueP endP quotedP equalsP attrP AturnP headP begun okay numberP table tried refusalOf intOf signed sized trim dropBack dropFront keepBefore blank someByte all isDigit valueFrom judged guidOf filled may hex idOf messageFrom fieldsOf withZeros cellsOf fieldsFrom fieldBy guidBy fieldsIn fieldFor numberOf parted unsigned decimal written short above millionths before behind received sameId righted next byRows chart
+unfolding readValue readItem utf8 loopP within digit isChar isGlue letter nameStart nameByte hexDigit worth isQuote banned leading following answerAt answerOf second3 third3 second4 plainByte charP versionP encodingP yesNoP settingP behindStandaloneP standaloneOrEndP behindEncodingP behindVersionP declarationP closeP elemP leafTagP nodeTagP contentTurnP contentP noDashP dashP markP marksP commentP textP markupP bitP peekP fillP rootP layoutP messageP live new alive namedP refP itemP VturnP valueP endP quotedP equalsP attrP AturnP headP begun okay numberP table tried refusalOf intOf signed sized trim dropBack dropFront keepBefore blank someByte all isDigit valueFrom judged guidOf filled may hex idOf messageFrom fieldsOf withZeros cellsOf fieldsFrom fieldBy guidBy fieldsIn fieldFor numberOf parted unsigned decimal written short above millionths before behind received sameId righted next byRows chart
 bench-holds = (refl, ((refl, refl, refl, refl), (refl, (refl, ((refl, refl, refl, refl), (refl, (refl, (refl, (refl, (refl, (refl, (refl, (refl, (refl, (refl, (refl, ((refl, refl, λ place f. refl), ((refl, refl, λ place f. refl), tt))))))))))))))))))

@@ -8,18 +8,19 @@ use Prim.Native.Char.{code}
 use native.Mathlib.Omega.{arith}
 use lib.ListN.{length, length-append, drop, length-drop, drop-of-length-le}
 use Rattle.exact.specs.Exact.{done, more, Reader, Exact, sound, done≢more, done≢bad}
-use Rattle.exact.specs.Chain.{Ret, ret, ret-exact, clash}
+use Rattle.exact.specs.Chain.{clash}
 use Rattle.grammar.specs.Bytes.{Bytes}
 use Rattle.grammar.specs.Limits.{DEPTH}
-use Rattle.grammar.specs.Filler.{Filler, spellFiller, GoodFiller}
+use Rattle.grammar.specs.Filler.{belowRoot, Filler, spellFiller, GoodFiller}
 use Rattle.grammar.specs.Element.{Element, spellElement}
-use Rattle.model.specs.Fillers.{FillThen, filled, fillP, fill-exact}
-use Rattle.model.specs.Elements.{elemP, contentP, IsElement, element-lt, read-exact}
+use Rattle.exact.specs.Loop.{loopP}
+use Rattle.model.specs.Fillers.{bitP, peekP, FillThen, filled, fillP, fill-exact}
+use Rattle.model.specs.Elements.{elemP, contentP, IsElement, element-lt, element-no-bang, read-exact}
 use Rattle.scan.specs.Pieces.{Got, chained}
 use Rattle.scan.proofs.Chain.{then-done, Fails, never, pass, moved, known}
 use Rattle.scan.specs.declared.Step.{Step}
 use Rattle.scan.specs.declared.Step.the-variants.{Done, Open, Bad}
-use Rattle.reader.specs.Elements.{fillTok, fill-bind, GotFiller}
+use Rattle.fillers.specs.Fills.{fillTok, GotFiller, fill-bind, fill-word}
 use Rattle.reader.specs.Outline.{Outlines}
 use Rattle.reader.specs.Message.{itself, none, GotInner}
 use Rattle.reader.specs.Child.{noChild, Next, Stands, NextChild}
@@ -32,19 +33,19 @@ abbrev elementP : Reader Element
 elementP = elemP (contentP (DEPTH - 3))
 
 unfoldable nextP : Reader Element
-nextP = fillP (λ f. elementP)
+nextP = fillP belowRoot (λ f. elementP)
 
-next-bind : (t : Bytes) → nextP t ≡ chained (fillTok t) (λ f u. elementP u)
+next-bind : (t : Bytes) → nextP t ≡ chained (fillTok belowRoot t) (λ f u. elementP u)
 unfolding nextP
-next-bind t = fill-bind (λ f. elementP) t
+next-bind t = fill-bind belowRoot (λ f. elementP) t
 
 next-open : nextP [] ≡ more
-unfolding nextP fillP
+unfolding nextP fillP peekP bitP loopP
 next-open = refl
 
-next-exact : Exact (FillThen (λ f. IsElement (DEPTH - 3))) nextP
+next-exact : Exact (FillThen belowRoot (λ f. IsElement (DEPTH - 3))) nextP
 unfolding nextP
-next-exact = fill-exact (λ f y. read-exact (DEPTH - 3))
+next-exact = fill-exact belowRoot (λ f. element-no-bang (DEPTH - 3)) (λ f y. read-exact (DEPTH - 3))
 
 -- what stands there is read
 next-read : {w : Bytes} {f : Filler} {x : Element} (n : Next w f x) → nextP w ≡ done x (n .rest)
@@ -54,17 +55,8 @@ next-read {w} {f} {x} n =
     ap nextP e ∙ next-exact .comp (spellFiller f ++ code "<" ∷ u) x (n .rest) (filled f u refl (n .filler) (record { good = n .element; spelt = i }))
 
 -- the filler that was read stands there
-filler-word : (s : Bytes) (at j : ℕ) (g : Got 1 s at (Done j) (fillTok (drop at s))) → (drop at s ≡ spellFiller (g .says .0) ++ code "<" ∷ drop j s) × GoodFiller (g .says .0)
-unfolding fillTok
-filler-word s at j g =
-    let (u, i, l) = sound (fill-exact (λ f y. ret-exact f)) (drop at s) (g .says .0) (drop j s) (g .says .3) in
-    go u i l
-  where
-    go : (u : Bytes) → drop at s ≡ u ++ drop j s → FillThen (λ f. Ret f) u (g .says .0) → (drop at s ≡ spellFiller (g .says .0) ++ code "<" ∷ drop j s) × GoodFiller (g .says .0)
-    go u i (filled f k q y (ret z x)) =
-        let e : u ≡ spellFiller f ++ code "<" ∷ [] = q ∙ ap (λ (k : Bytes). spellFiller f ++ code "<" ∷ k) z in
-        let h : drop at s ≡ spellFiller f ++ code "<" ∷ drop j s = i ∙ ap (λ (y : Bytes). y ++ drop j s) e ∙ append-assoc (spellFiller f) (code "<" ∷ []) (drop j s) in
-        (h ∙ ap (λ (f : Filler). spellFiller f ++ code "<" ∷ drop j s) (sym x), subst (λ (f : Filler). GoodFiller f) (sym x) y)
+filler-word : (s : Bytes) (at j : ℕ) (g : Got 1 s at (Done j) (fillTok belowRoot (drop at s))) → (drop at s ≡ spellFiller (g .says .0) ++ code "<" ∷ drop j s) × GoodFiller belowRoot (g .says .0)
+filler-word s at j g = fill-word belowRoot (drop at s) (g .says .0) (drop j s) (g .says .3)
 
 fails-none : {s : Bytes} {at : ℕ} {r : Step} → Fails r → Got 1 s at r (nextP (drop at s)) → (f : Filler) (x : Element) → ¬ Next (drop at s) f x
 fails-none {s} {at} {r} a g f x n = go r a g
@@ -82,10 +74,10 @@ module _ (s : Bytes) (at : ℕ) (r : Child) where
   pub child-out : length s < at → r ≡ noChild → NextChild s at r
   child-out h q = absent q (fails-none {s = s} {at = at} {r = Open} (inl refl) (record { says = let k : length s ≤ at = omega arith in ap nextP (drop-of-length-le s k) ∙ next-open }))
 
-  pub child-bare : {x : Step} → Fails x → GotFiller s at x → r ≡ noChild → NextChild s at r
+  pub child-bare : {x : Step} → Fails x → GotFiller belowRoot s at x → r ≡ noChild → NextChild s at r
   child-bare f g q = absent q (fails-none f (pass f (g .says) 1 at (omega arith) _ (next-bind (drop at s))))
 
-  module _ (j : ℕ) (g₁ : Got 1 s at (Done j) (fillTok (drop at s))) (old new : List ℕ) (c : Inner) (g : GotInner itself none s j old new c (elementP (drop j s))) where
+  module _ (j : ℕ) (g₁ : Got 1 s at (Done j) (fillTok belowRoot (drop at s))) (old new : List ℕ) (c : Inner) (g : GotInner itself none s j old new c (elementP (drop j s))) where
     so : nextP (drop at s) ≡ elementP (drop j s)
     so = next-bind (drop at s) ∙ then-done _ (g₁ .says .3)
 
@@ -111,7 +103,7 @@ module _ (s : Bytes) (at : ℕ) (r : Child) where
         room = known z (g .got) .says .2
 
         place : j ≡ at + length (spellFiller f) + 1
-        place = filler-there s at j g₁
+        place = filler-there belowRoot s at j g₁
 
         stands : Stands s at r
         stands =

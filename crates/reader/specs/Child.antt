@@ -6,7 +6,7 @@ use Prim.Native.Nat.{ℕ, _+_, _-_}
 use lib.ListN.{length, drop}
 use Rattle.grammar.specs.Bytes.{Bytes}
 use Rattle.grammar.specs.Limits.{DEPTH}
-use Rattle.grammar.specs.Filler.{Filler, spellFiller, GoodFiller}
+use Rattle.grammar.specs.Filler.{belowRoot, Filler, spellFiller, GoodFiller}
 use Rattle.grammar.specs.Element.{Element, spellElement, GoodElement}
 use Rattle.reader.specs.Outline.{Outlines}
 use Rattle.reader.specs.declared.answer.Child.{Child}
@@ -17,7 +17,7 @@ noChild = record { found = false; from = 0; to = 0; count = 0; inside = 0; next 
 -- the bytes w begin with filler and an element: a child of the root's child, with what may be open inside it
 pub record Next (w : Bytes) (f : Filler) (x : Element) : Type 0 where
   pub rest : Bytes
-  pub filler : GoodFiller f
+  pub filler : GoodFiller belowRoot f
   pub element : GoodElement (DEPTH - 3) x
   pub whole : w ≡ spellFiller f ++ (spellElement x ++ rest)
 

@@ -6,7 +6,7 @@ use lib.ListN.{length, drop}
 use Rattle.exact.specs.Exact.{Out, done, Reader}
 use Rattle.grammar.specs.Bytes.{Bytes}
 use Rattle.grammar.specs.Limits.{DEPTH}
-use Rattle.grammar.specs.Filler.{Filler}
+use Rattle.grammar.specs.Filler.{inRoot, Filler}
 use Rattle.grammar.specs.Element.{Element}
 use Rattle.grammar.specs.Message.{Root, Layout, declared}
 use Rattle.model.specs.Attributes.{Head}
@@ -16,7 +16,7 @@ use Rattle.model.specs.Messages.{mkRoot, rootP}
 use Rattle.scan.specs.Pieces.{Got, chained, endTagP}
 use Rattle.scan.specs.declared.Step.{Step}
 use Rattle.scan.specs.declared.Step.the-variants.{Done}
-use Rattle.reader.specs.Elements.{fillTok}
+use Rattle.fillers.specs.Fills.{fillTok}
 use Rattle.tags.specs.Heads.{Noted}
 use Rattle.reader.specs.Outline.{innerOf, tagIn, lead, Outlines}
 use Rattle.reader.specs.declared.message.Inner.{Inner}
@@ -43,14 +43,14 @@ pub record GotInner {A : Type 0} (child : A → Element) (before : A → Bytes) 
 
 -- the root's child, filler and the end tag, whatever was read before
 unfoldable pub insideP : Bytes → Head → Filler → Reader Root
-insideP n h f t = chained (elemP (contentP (DEPTH - 2)) t) (λ e x. chained (fillTok x) (λ f′ y. chained (endTagP n y) (λ g z. done (mkRoot h f e f′ g) z)))
+insideP n h f t = chained (elemP (contentP (DEPTH - 2)) t) (λ e x. chained (fillTok inRoot x) (λ f′ y. chained (endTagP n y) (λ g z. done (mkRoot h f e f′ g) z)))
 
 pub record GotInside (n s : Bytes) (at : ℕ) (old new : List ℕ) (r : Inner) : Type 0 where
   pub says : (h : Head) (f : Filler) → GotInner innerOf none s at old new r (insideP n h f (drop at s))
 
 -- a message with a declaration, behind `<?`
 unfoldable pub declaredP : Reader Layout
-declaredP t = chained (declarationP t) (λ d u. chained (fillTok u) (λ f v. chained (rootP v) (λ r w. done (declared d f r) w)))
+declaredP t = chained (declarationP t) (λ d u. chained (fillTok inRoot u) (λ f v. chained (rootP v) (λ r w. done (declared d f r) w)))
 
 abbrev pub declaredLead : Layout → Bytes
 declaredLead l = drop 2 (lead l)

@@ -9,22 +9,23 @@ use native.Mathlib.Omega.{arith}
 use lib.ListN.{length, length-append, take, drop, take-append-drop}
 use lib.Seq.{take-at, drop-at, drop-drop}
 use Rattle.exact.specs.Exact.{Out, done, bad, Reader, Exact, unique, done≢bad}
-use Rattle.exact.specs.Chain.{ret, retP, ret-exact, Map, mapped, mapP, map-exact}
+use Rattle.exact.specs.Chain.{Map, mapped, mapP, map-exact}
+use Rattle.exact.specs.Byte.{map-starts}
 use Rattle.grammar.specs.Bytes.{Bytes, text, within}
 use Rattle.grammar.specs.Limits.{DEPTH}
 use Rattle.grammar.specs.Name.{letter, nameStart}
 use Rattle.grammar.specs.Value.{spellValue}
 use Rattle.grammar.specs.Attribute.{Attribute, spellAttributes}
-use Rattle.grammar.specs.Filler.{Filler, spellFiller, GoodFiller}
+use Rattle.grammar.specs.Filler.{belowRoot, Filler, spellFiller, GoodFiller}
 use Rattle.grammar.specs.Element.{Tag, Element, empty, full, Content, bare, child, spellEnd, spellElement, spellContent, GoodElement, good-empty, good-full, GoodContent, good-bare, good-child}
 use Rattle.grammar.specs.Declaration.{spellDeclaration}
 use Rattle.grammar.specs.Message.{Root, Layout, plain, declared, hermes, spellRoot, spellLayout, readLayout, Message}
 use Rattle.model.specs.Names.{live, new}
 use Rattle.model.specs.Fillers.{FillThen, filled, fillP, fill-exact}
-use Rattle.model.specs.Elements.{elemP, contentP, IsElement, read-exact}
+use Rattle.model.specs.Elements.{elemP, contentP, IsElement, element-no-bang, read-exact}
 use Rattle.scan.specs.Pieces.{chained}
 use Rattle.tags.specs.Places.{nameAt, nameEnd, valueAt, valueEnd}
-use Rattle.reader.specs.Elements.{fillTok, fill-bind}
+use Rattle.fillers.specs.Fills.{fillTok, fill-bind, word-fill}
 use Rattle.reader.specs.Outline.{childOf, tagIn, rootLead, lead, Outlines}
 use Rattle.reader.specs.Answer.{Accepted}
 use Rattle.reader.specs.Child.{noChild, Next, Stands, NextChild}
@@ -178,17 +179,17 @@ abbrev met : Filler → Element → Met
 met f x = record { filler = f; element = x }
 
 unfoldable metP : Reader Met
-metP = fillP (λ f. mapP (met f) (elemP (contentP (DEPTH - 3))))
+metP = fillP belowRoot (λ f. mapP (met f) (elemP (contentP (DEPTH - 3))))
 
-met-exact : Exact (FillThen (λ f. Map (met f) (IsElement (DEPTH - 3)))) metP
+met-exact : Exact (FillThen belowRoot (λ f. Map (met f) (IsElement (DEPTH - 3)))) metP
 unfolding metP
-met-exact = fill-exact (λ f y. map-exact (met f) (read-exact (DEPTH - 3)))
+met-exact = fill-exact belowRoot (λ f. map-starts (element-no-bang (DEPTH - 3))) (λ f y. map-exact (met f) (read-exact (DEPTH - 3)))
 
 module _ {w : Bytes} {f : Filler} {x : Element} (n : Next w f x) where
   met-word : Bytes
   met-word = spellFiller f ++ code "<" ∷ behindLt x
 
-  met-there : FillThen (λ f. Map (met f) (IsElement (DEPTH - 3))) met-word (met f x)
+  met-there : FillThen belowRoot (λ f. Map (met f) (IsElement (DEPTH - 3))) met-word (met f x)
   unfolding met-word
   met-there = filled f (behindLt x) refl (n .filler) (mapped x (record { good = n .element; spelt = sym (element-is x) }) refl)
 
@@ -206,12 +207,11 @@ slash-bad : (f : Filler) (y : Bytes) → mapP (met f) (elemP (contentP (DEPTH - 
 unfolding elemP live new nameStart letter within
 slash-bad f y = refl
 
-pub end-no-child : {w : Bytes} (f : Filler) (y : Bytes) → GoodFiller f → w ≡ spellFiller f ++ code "<" ∷ code "/" ∷ y → (f′ : Filler) (x : Element) → ¬ Next w f′ x
-unfolding metP chained fillTok
+pub end-no-child : {w : Bytes} (f : Filler) (y : Bytes) → GoodFiller belowRoot f → w ≡ spellFiller f ++ code "<" ∷ code "/" ∷ y → (f′ : Filler) (x : Element) → ¬ Next w f′ x
+unfolding metP chained
 end-no-child {w} f y h e f′ x n =
-    let a : w ≡ (spellFiller f ++ code "<" ∷ []) ++ (code "/" ∷ y) = e ∙ sym (append-assoc (spellFiller f) (code "<" ∷ []) (code "/" ∷ y)) in
-    let t : fillP (λ f. retP f) w ≡ done f (code "/" ∷ y) = ap (fillP (λ f. retP f)) a ∙ fill-exact (λ f y. ret-exact f) .comp (spellFiller f ++ code "<" ∷ []) f (code "/" ∷ y) (filled f [] refl h (ret refl refl)) in
-    let b : metP w ≡ bad (code "/" ∷ y) = fill-bind (λ f. mapP (met f) (elemP (contentP (DEPTH - 3)))) w ∙ ap (λ (o : Out Filler). chained o (λ f. mapP (met f) (elemP (contentP (DEPTH - 3))))) t ∙ slash-bad f y in
+    let t : fillTok belowRoot w ≡ done f (code "/" ∷ y) = ap (fillTok belowRoot) e ∙ word-fill belowRoot f (code "/") y h refl in
+    let b : metP w ≡ bad (code "/" ∷ y) = fill-bind belowRoot (λ f. mapP (met f) (elemP (contentP (DEPTH - 3)))) w ∙ ap (λ (o : Out Filler). chained o (λ f. mapP (met f) (elemP (contentP (DEPTH - 3))))) t ∙ slash-bad f y in
     done≢bad (ap metP (met-whole n) ∙ met-exact .comp (met-word n) (met f′ x) (n .rest) (met-there n)) b
 
 -- in a content, `child` finds the next child, and the rest of the content behind it

@@ -4,16 +4,8 @@ ghost use Prim.Native.Nat.{_-_, _≤_};
 ghost use lib.ListN.{length, take, drop};
 ghost use Rattle.model.specs.Elements.{elemP, contentP};
 ghost use Rattle.scan.specs.Pieces.{Got, endTagP};
-ghost use Rattle.reader.specs.Elements.{GotFiller, GotStart};
+ghost use Rattle.reader.specs.Elements.{GotStart};
 use scan::Step;
-
-/// What may stand between elements, and the `<` behind it.
-pub fn filler_lt(s: &[u8], at: usize) -> Step
-    requires { ⌜ at ≤ length (now s) ⌝ }
-    ensures { λ r. ⌜ GotFiller (now (s .entry)) at r ⌝ }
-{
-    scan::glued(s, at, b'<')
-}
 
 /// Behind `<`: the end tag of the name that stands from `from` to `to`.
 pub fn end_tag(s: &[u8], at: usize, from: usize, to: usize) -> Step
@@ -88,7 +80,7 @@ pub fn content(s: &[u8], at: usize, left: usize, from: usize, to: usize) -> Step
 {
     let mut i = at;
     loop {
-        let r = filler_lt(s, i);
+        let r = fillers::filler_lt(s, i, true);
         let Step::Done(j) = r else {
             return r;
         };

@@ -103,7 +103,7 @@ pub fn child(s: &[u8], at: usize) -> Child
     if s.len() < at {
         return no_child();
     }
-    let r = elements::filler_lt(s, at);
+    let r = fillers::filler_lt(s, at, true);
     let Step::Done(j) = r else {
         return no_child();
     };

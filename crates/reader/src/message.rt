@@ -83,7 +83,7 @@ pub fn inside(s: &[u8], at: usize, from: usize, to: usize, table: &mut [u16]) ->
     let Step::Done(a) = r else {
         return ended(c, r);
     };
-    let r = elements::filler_lt(s, a);
+    let r = fillers::filler_lt(s, a, false);
     let Step::Done(a) = r else {
         return ended(c, r);
     };
@@ -119,7 +119,7 @@ pub fn root(s: &[u8], at: usize, table: &mut [u16]) -> Inner
     let Step::Done(e) = r else {
         return without(r);
     };
-    let r = elements::filler_lt(s, e);
+    let r = fillers::filler_lt(s, e, false);
     let Step::Done(i) = r else {
         return without(r);
     };
@@ -135,7 +135,7 @@ pub fn declared(s: &[u8], at: usize, table: &mut [u16]) -> Inner
     let Step::Done(a) = r else {
         return without(r);
     };
-    let r = elements::filler_lt(s, a);
+    let r = fillers::filler_lt(s, a, false);
     let Step::Done(a) = r else {
         return without(r);
     };

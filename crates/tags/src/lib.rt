@@ -22,8 +22,8 @@ fn wide(b: u8) -> usize
     b as usize
 }
 
-// The same answer without its code point.
-fn step(p: Piece) -> Step
+/// The same answer without its code point.
+pub fn step(p: Piece) -> Step
     ensures { λ r. ⌜ r ≡ stepOf p ⌝ }
 {
     match p {

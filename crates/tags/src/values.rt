@@ -45,8 +45,8 @@ fn clear(b: u8, q: u8) -> u8
     ((31 < b) & (b < 128) & (b != b'<') & (b != b'&') & (b != q)) as u8
 }
 
-// Whether the eight bytes at i are such characters.
-fn eight_clear(s: &[u8], i: usize, q: u8) -> bool
+/// Whether the eight bytes at i are printable characters that stand as themselves in quotes q.
+pub fn eight_clear(s: &[u8], i: usize, q: u8) -> bool
     requires { ⌜ i + 8 ≤ length (now s) ⌝ }
     ensures { λ r. ⌜ (r ≡ true → Plain q (now (s .entry)) i 8) ⌝ }
 {

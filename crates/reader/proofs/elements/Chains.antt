@@ -8,7 +8,7 @@ use Rattle.exact.specs.Exact.{Out, done, more, bad, Reader, Exact}
 use Rattle.exact.specs.Chain.{retP, bindP}
 use Rattle.exact.specs.Loop.{onward, loopP}
 use Rattle.grammar.specs.Bytes.{Bytes}
-use Rattle.grammar.specs.Filler.{Filler}
+use Rattle.grammar.specs.Filler.{belowRoot, Filler}
 use Rattle.model.specs.Names.{live, new}
 use Rattle.model.specs.Attributes.{headP}
 use Rattle.model.specs.Fillers.{fillP}
@@ -16,7 +16,8 @@ use Rattle.model.specs.Elements.{closeP, Tail, bodyP, elemP, Acc, ContentTurn, 
 use Rattle.scan.specs.Pieces.{nameTok, chained}
 use Rattle.scan.specs.Unfold.{then-and, and-ext, and-and, token-bind}
 use Rattle.scan.proofs.Chain.{then-done}
-use Rattle.reader.specs.Elements.{fillTok, fill-bind, startP}
+use Rattle.fillers.specs.Fills.{fillTok, fill-bind}
+use Rattle.reader.specs.Elements.{startP}
 
 -- an element: its tag, then the rest
 pub elem-bind : (inner : Bytes → Reader Tail) (t : Bytes) → elemP inner t ≡ chained (startP t) (λ x v. bodyP inner (x .name) (x .head) v)
@@ -47,13 +48,13 @@ tag-exact zero n k f = leaf-tag-exact n k f
 tag-exact (suc d) n k f = node-tag-exact d (read-exact d) n k f
 
 -- one turn
-pub content-step : (d : ℕ) (n : Bytes) (k : Acc) (t : Bytes) → restP d n k t ≡ chained (fillTok t) (λ f u. chained (tagP d n k f u) (onward (restP d n)))
+pub content-step : (d : ℕ) (n : Bytes) (k : Acc) (t : Bytes) → restP d n k t ≡ chained (fillTok belowRoot t) (λ f u. chained (tagP d n k f u) (onward (restP d n)))
 unfolding restP contentTurnP
 content-step d n k t =
     loop-content-eq d n (tagP d n) (tag-exact d n) k t
-    ∙ then-and (fillP (tagP d n k) t) (onward (restP d n))
-    ∙ ap (λ (o : Out ContentTurn). chained o (onward (restP d n))) (fill-bind (tagP d n k) t)
-    ∙ and-and (fillTok t) (tagP d n k) (onward (restP d n))
+    ∙ then-and (fillP belowRoot (tagP d n k) t) (onward (restP d n))
+    ∙ ap (λ (o : Out ContentTurn). chained o (onward (restP d n))) (fill-bind belowRoot (tagP d n k) t)
+    ∙ and-and (fillTok belowRoot t) (tagP d n k) (onward (restP d n))
 
 module _ (d : ℕ) (n : Bytes) (k : Acc) (f : Filler) where
   pub tag-open : tagP d n k f [] ≡ more

@@ -11,25 +11,23 @@ use borrow.Author.Tests.{eq-eqb, ne-eqb}
 use Rattle.exact.specs.Exact.{Out, done, bad}
 use Rattle.exact.specs.Loop.{onward}
 use Rattle.grammar.specs.Bytes.{Bytes}
-use Rattle.grammar.specs.Filler.{Filler}
+use Rattle.grammar.specs.Filler.{Site, belowRoot, Filler}
 use Rattle.grammar.specs.Element.{empty, full, bare, child}
 use Rattle.model.specs.Attributes.{headP}
 use Rattle.model.specs.Elements.{closeP, tagOf, bodyP, elemP, Acc, ContentTurn, shutTurn, childTurn, contentP}
-use Rattle.scan.specs.Pieces.{Got, GotTok, nameTok, chained, gluedP, endTagP}
+use Rattle.scan.specs.Pieces.{Got, GotTok, nameTok, chained, endTagP}
 use Rattle.scan.specs.Unfold.{then-and, and-ext, and-and, close-bind}
 use Rattle.scan.proofs.Chain.{then-done, then-more, then-bad, Fails, never, tok, pass, last, known}
 use Rattle.scan.specs.declared.Step.{Step}
 use Rattle.scan.specs.declared.Step.the-variants.{Done, Open, Bad}
 use Rattle.tags.specs.Heads.{HeadRead, HeadCase, HeadSays}
-use Rattle.reader.specs.Elements.{fillTok, fill-tok, GotFiller, Started, startP, StartOf, GotStart}
+use Rattle.fillers.specs.Fills.{fillTok, GotFiller}
+use Rattle.reader.specs.Elements.{Started, startP, StartOf, GotStart}
 use Rattle.tags.specs.declared.attributes.Tag.{Tag}
 use Rattle.reader.specs.declared.elements.Start.{Start}
 use Rattle.reader.proofs.elements.Chains.{elem-bind, tagP, restP, content-is, content-step, tag-open, tag-close, tag-deep, tag-child}
 
-pub filler-done : {s : Bytes} {at : ℕ} {r : Step} → Got 1 s at r (gluedP 60 (drop at s)) → GotFiller s at r
-filler-done {s} {at} g = record { says = last g 1 at (omega arith) (omega arith) (λ b. record { glue = b }) (fill-tok (drop at s)) }
-
-pub known-filler : {s : Bytes} {at : ℕ} {r : Step} {e : ℕ} → r ≡ Done e → GotFiller s at r → Got 1 s at (Done e) (fillTok (drop at s))
+pub known-filler : {site : Site} {s : Bytes} {at : ℕ} {r : Step} {e : ℕ} → r ≡ Done e → GotFiller site s at r → Got 1 s at (Done e) (fillTok site (drop at s))
 known-filler q g = known q (g .says)
 
 -- what a head's answer says of the model alone; a head that is known
@@ -129,10 +127,10 @@ pub rest-start : (d : ℕ) (n s : Bytes) (at : ℕ) → at ≤ length s → Rest
 rest-start d n s at h = record { from = omega arith; upto = h; build = λ c. c; same = content-is d n (drop at s) }
 
 module _ (d : ℕ) (n s : Bytes) (at i : ℕ) (w : Rest d n s at i) where
-  pub content-fails : {r : Step} → Fails r → GotFiller s i r → Got 1 s at r (contentP d n (drop at s))
+  pub content-fails : {r : Step} → Fails r → GotFiller belowRoot s i r → Got 1 s at r (contentP d n (drop at s))
   content-fails f g = pass f (g .says) 1 at (w .from) _ (w .same ∙ content-step d n (w .build) (drop i s))
 
-  module _ (j : ℕ) (g : Got 1 s i (Done j) (fillTok (drop i s))) where
+  module _ (j : ℕ) (g : Got 1 s i (Done j) (fillTok belowRoot (drop i s))) where
     abbrev k : Acc
     k = w .build
 

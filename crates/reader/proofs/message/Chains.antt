@@ -18,31 +18,32 @@ use Rattle.model.specs.Declarations.{declarationP}
 use Rattle.model.specs.Messages.{mkRoot, rootP, layoutP}
 use Rattle.scan.specs.Pieces.{byteP, wordP, chained}
 use Rattle.scan.specs.Unfold.{then-and, and-ext, on-bind, close-bind}
-use Rattle.reader.specs.Elements.{fillTok, fill-bind}
+use Rattle.grammar.specs.Filler.{inRoot}
+use Rattle.fillers.specs.Fills.{fillTok, fill-bind}
 use Rattle.reader.specs.Message.{insideP, declaredP}
 
-pub root-bind : (t : Bytes) → rootP t ≡ chained (wordP hermes t) (λ _ u. chained (headP false u) (λ h v. chained (fillTok v) (λ f w. insideP hermes h f w)))
+pub root-bind : (t : Bytes) → rootP t ≡ chained (wordP hermes t) (λ _ u. chained (headP false u) (λ h v. chained (fillTok inRoot v) (λ f w. insideP hermes h f w)))
 unfolding rootP wordP insideP
 root-bind t =
     then-and (litP {A = ℕ} hermes 0 t) _
     ∙ and-ext (litP {A = ℕ} hermes 0 t) (λ _ u. then-and (headP false u) _ ∙ and-ext (headP false u) (λ h v.
-    fill-bind (λ f. bindP (elemP (contentP (DEPTH - 2))) (λ e. fillP (λ f′. closeP hermes (mkRoot h f e f′)))) v ∙ and-ext (fillTok v) (λ f w.
+    fill-bind inRoot (λ f. bindP (elemP (contentP (DEPTH - 2))) (λ e. fillP inRoot (λ f′. closeP hermes (mkRoot h f e f′)))) v ∙ and-ext (fillTok inRoot v) (λ f w.
     then-and (elemP (contentP (DEPTH - 2)) w) _ ∙ and-ext (elemP (contentP (DEPTH - 2)) w) (λ e x.
-    fill-bind (λ f′. closeP hermes (mkRoot h f e f′)) x ∙ and-ext (fillTok x) (λ f′ y. close-bind hermes (mkRoot h f e f′) y)))))
+    fill-bind inRoot (λ f′. closeP hermes (mkRoot h f e f′)) x ∙ and-ext (fillTok inRoot x) (λ f′ y. close-bind hermes (mkRoot h f e f′) y)))))
 
 -- behind the first `<`
 unfoldable pub afterP : Reader Layout
 afterP =
-    choiceP (eqb 63) (onP (eqb 63) (λ c. bindP declarationP (λ d. fillP (λ f. mapP (declared d f) rootP)))) (mapP plain rootP)
+    choiceP (eqb 63) (onP (eqb 63) (λ c. bindP declarationP (λ d. fillP inRoot (λ f. mapP (declared d f) rootP)))) (mapP plain rootP)
 
 pub layout-bind : (t : Bytes) → layoutP t ≡ chained (byteP 60 t) (λ _ u. afterP u)
 unfolding layoutP afterP
 layout-bind t =
-    on-bind 60 (choiceP (eqb 63) (onP (eqb 63) (λ c. bindP declarationP (λ d. fillP (λ f. mapP (declared d f) rootP)))) (mapP plain rootP)) t
+    on-bind 60 (choiceP (eqb 63) (onP (eqb 63) (λ c. bindP declarationP (λ d. fillP inRoot (λ f. mapP (declared d f) rootP)))) (mapP plain rootP)) t
 
-declared-bind : (t : Bytes) → bindP declarationP (λ d. fillP (λ f. mapP (declared d f) rootP)) t ≡ declaredP t
+declared-bind : (t : Bytes) → bindP declarationP (λ d. fillP inRoot (λ f. mapP (declared d f) rootP)) t ≡ declaredP t
 unfolding declaredP
-declared-bind t = then-and (declarationP t) _ ∙ and-ext (declarationP t) (λ d u. fill-bind (λ f. mapP (declared d f) rootP) u ∙ and-ext (fillTok u) (λ f v. then-and (rootP v) _))
+declared-bind t = then-and (declarationP t) _ ∙ and-ext (declarationP t) (λ d u. fill-bind inRoot (λ f. mapP (declared d f) rootP) u ∙ and-ext (fillTok inRoot u) (λ f v. then-and (rootP v) _))
 
 pub after-open : afterP [] ≡ more
 unfolding afterP

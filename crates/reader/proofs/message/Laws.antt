@@ -11,16 +11,15 @@ use lib.ListN.{length, length-append, getD, take, drop, length-take, length-drop
 use lib.Seq.{drop-cons, take-at}
 use borrow.Author.Tests.{eq-eqb, ne-eqb}
 use Rattle.exact.specs.Exact.{Out, done, Lang, Reader, Exact, sound}
-use Rattle.exact.specs.Chain.{Ret, ret, retP, ret-exact, mapP, clash, ifP}
+use Rattle.exact.specs.Chain.{retP, mapP, clash, ifP}
 use Rattle.exact.specs.Byte.{Lit, lit, lit-exact}
 use Rattle.grammar.specs.Bytes.{Bytes, text}
 use Rattle.grammar.specs.Limits.{DEPTH}
 use Rattle.grammar.specs.Attribute.{spellAttributes}
-use Rattle.grammar.specs.Filler.{Filler, spellFiller}
+use Rattle.grammar.specs.Filler.{Site, inRoot, Filler, spellFiller}
 use Rattle.grammar.specs.Element.{Element, empty, full}
 use Rattle.grammar.specs.Message.{Root, Layout, plain, declared, hermes}
 use Rattle.model.specs.Attributes.{Head, endOf, IsHead, headP, head-exact}
-use Rattle.model.specs.Fillers.{FillThen, filled, fill-exact}
 use Rattle.model.specs.Elements.{Tail, tagOf, bodyP, elemP, contentP}
 use Rattle.model.specs.Declarations.{declarationP, declaration-exact}
 use Rattle.model.specs.Messages.{mkRoot, rootP, layoutP}
@@ -30,7 +29,8 @@ use Rattle.scan.proofs.Chain.{then-done, Fails, pass, last, moved, known}
 use Rattle.scan.specs.declared.Step.{Step}
 use Rattle.scan.specs.declared.Step.the-variants.{Done, Open}
 use Rattle.tags.specs.Heads.{HeadRead, HeadSays}
-use Rattle.reader.specs.Elements.{fillTok, GotFiller, GotStart}
+use Rattle.fillers.specs.Fills.{fillTok, GotFiller, fill-word}
+use Rattle.reader.specs.Elements.{GotStart}
 use Rattle.reader.specs.Outline.{innerOf, childOf, tagIn, rootLead, lead, insideFrom}
 use Rattle.reader.specs.Message.{withEnd, itself, none, Drawn, GotInner, insideP, GotInside, declaredP, declaredLead}
 use Rattle.tags.specs.declared.attributes.Tag.{Tag}
@@ -70,19 +70,14 @@ byte-there b s at e g =
     go u i (lit q z) = i ∙ ap (λ (y : Bytes). at + length y) q
 
 -- filler and `<`
-pub filler-there : (s : Bytes) (at e : ℕ) (g : Got 1 s at (Done e) (fillTok (drop at s))) → e ≡ at + length (spellFiller (g .says .0)) + 1
-unfolding fillTok
-filler-there s at e g =
+pub filler-there : (site : Site) (s : Bytes) (at e : ℕ) (g : Got 1 s at (Done e) (fillTok site (drop at s))) → e ≡ at + length (spellFiller (g .says .0)) + 1
+filler-there site s at e g =
+    let f = g .says .0 in
+    let (w, good) = fill-word site (drop at s) f (drop e s) (g .says .3) in
     let h = g .says .1 in
-    let (u, i, j, l) = spanned (fill-exact (λ f y. ret-exact f)) s at e (g .says .0) (omega arith) (g .says .2) (g .says .3) in
-    go u i l
-  where
-    go : (u : Bytes) → e ≡ at + length u → FillThen (λ f. Ret f) u (g .says .0) → e ≡ at + length (spellFiller (g .says .0)) + 1
-    go u i (filled f k q y (ret z x)) =
-        let y : u ≡ spellFiller f ++ 60 ∷ [] = q ∙ ap (λ (k : Bytes). spellFiller f ++ 60 ∷ k) z in
-        let n : length u ≡ length (spellFiller f) + 1 = ap length y ∙ length-append (spellFiller f) (60 ∷ []) in
-        let m : length (spellFiller (g .says .0)) ≡ length (spellFiller f) = ap (λ (f : Filler). length (spellFiller f)) x in
-        omega arith
+    let k = g .says .2 in
+    let n : length s - at ≡ length (spellFiller f) + suc (length s - e) = sym (length-drop at s) ∙ ap length w ∙ length-append (spellFiller f) (code "<" ∷ drop e s) ∙ ap (λ (m : ℕ). length (spellFiller f) + suc m) (length-drop e s) in
+    omega arith
 
 -- the head of a tag that is no empty one
 pub head-there : (may : Bool) (s : Bytes) (at e : ℕ) (h : Head) → at + 1 ≤ e → e ≤ length s → headP may (drop at s) ≡ done h (drop e s) → h .empty ≡ false → e ≡ at + length (spellAttributes (h .attributes) ++ (h .trail ++ text ">"))
@@ -184,13 +179,13 @@ module _ (n s : Bytes) (at : ℕ) (old new : List ℕ) (c r : Inner) where
   inside-child-fails q f g = record { says = λ h b. inner-fails innerOf none s at old new (ap (λ (x : Inner). x .end) q) f (pass f (g .got) 1 at (omega arith) _ refl) }
 
   module _ (a : ℕ) (ca : c .end ≡ Done a) (g₁ : GotInner itself none s at old new c (elemP (contentP (DEPTH - 2)) (drop at s))) where
-    pub inside-filler-fails : {x : Step} → r ≡ withEnd c x → Fails x → GotFiller s a x → GotInside n s at old new r
+    pub inside-filler-fails : {x : Step} → r ≡ withEnd c x → Fails x → GotFiller inRoot s a x → GotInside n s at old new r
     unfolding insideP
     inside-filler-fails q f g =
         let k = known ca (g₁ .got) in
         record { says = λ h b. inner-fails innerOf none s at old new (ap (λ (x : Inner). x .end) q) f (pass f (g .says) 1 at (let l = k .says .1 in omega arith) _ (then-done _ (k .says .3))) }
 
-    pub inside-read : {x : Step} → r ≡ withEnd c x → (i : ℕ) → Got 1 s a (Done i) (fillTok (drop a s)) → Got 1 s i x (endTagP n (drop i s)) → GotInside n s at old new r
+    pub inside-read : {x : Step} → r ≡ withEnd c x → (i : ℕ) → Got 1 s a (Done i) (fillTok inRoot (drop a s)) → Got 1 s i x (endTagP n (drop i s)) → GotInside n s at old new r
     unfolding insideP
     inside-read {x} q i g₂ g = record {
       says = λ h b. record { got = subst (λ (y : Step). Got 1 s at y (insideP n h b (drop at s))) (sym (ap (λ (x : Inner). x .end) q)) (all h b); lines = λ v e z y. says h b v e y };
@@ -218,7 +213,7 @@ inside-made : (n : Bytes) (h : Head) (f : Filler) (t : Bytes) (v : Root) (u : By
 unfolding insideP
 inside-made n h f t v u q =
     let (x, t₁, a, q₁) = both-done (elemP (contentP (DEPTH - 2)) t) _ q in
-    let (f′, t₂, b, q₂) = both-done (fillTok t₁) _ q₁ in
+    let (f′, t₂, b, q₂) = both-done (fillTok inRoot t₁) _ q₁ in
     let (g, t₃, c, q₃) = both-done (endTagP n t₂) (λ g z. done (mkRoot h f x f′ g) z) q₂ in
     (x, f′, g, cc)
 
@@ -235,10 +230,10 @@ module _ (s : Bytes) (at : ℕ) where
       hd : Head
       hd = g₂ .head
 
-      pub root-filler-fails : {x : Step} → Fails x → GotFiller s e x → Got 1 s at x (rootP (drop at s))
+      pub root-filler-fails : {x : Step} → Fails x → GotFiller inRoot s e x → Got 1 s at x (rootP (drop at s))
       root-filler-fails f g = pass f (g .says) 1 at (let l = g₁ .says .1 in let m = g₂ .far in omega arith) _ (root-bind (drop at s) ∙ then-done _ (g₁ .says .3) ∙ then-done _ (g₂ .reads))
 
-      module _ (i : ℕ) (g₃ : Got 1 s e (Done i) (fillTok (drop e s))) where
+      module _ (i : ℕ) (g₃ : Got 1 s e (Done i) (fillTok inRoot (drop e s))) where
         fl : Filler
         fl = g₃ .says .0
 
@@ -252,7 +247,7 @@ module _ (s : Bytes) (at : ℕ) where
             let k = word-there hermes s at a g₁ .0 in
             let y = root-started s a e hd (g₂ .far) (g₂ .upto) (g₂ .reads) in
             let l = head-there false s a e hd (g₂ .far) (g₂ .upto) (g₂ .reads) y in
-            let m = filler-there s e i g₃ in
+            let m = filler-there inRoot s e i g₃ in
             omega (
               arith,
               length-append (spellAttributes (hd .attributes)) (hd .trail ++ text ">"),
@@ -281,16 +276,16 @@ module _ (s : Bytes) (at : ℕ) where
   declared-fails f g = pass f g 1 at (omega arith) _ refl
 
   module _ (a : ℕ) (g₁ : Got 1 s at (Done a) (declarationP (drop at s))) where
-    pub declared-filler-fails : {x : Step} → Fails x → GotFiller s a x → Got 1 s at x (declaredP (drop at s))
+    pub declared-filler-fails : {x : Step} → Fails x → GotFiller inRoot s a x → Got 1 s at x (declaredP (drop at s))
     unfolding declaredP
     declared-filler-fails f g = pass f (g .says) 1 at (let l = g₁ .says .1 in omega arith) _ (then-done _ (g₁ .says .3))
 
-    module _ (b : ℕ) (g₂ : Got 1 s a (Done b) (fillTok (drop a s))) where
+    module _ (b : ℕ) (g₂ : Got 1 s a (Done b) (fillTok inRoot (drop a s))) where
       declared-place : (x : Root) → b + length (rootLead x) ≡ at + length (declaredLead (declared (g₁ .says .0) (g₂ .says .0) x))
       declared-place x =
           let l = g₁ .says .1 in
           let (w, i, j, k) = spanned declaration-exact s at a (g₁ .says .0) (omega arith) (g₁ .says .2) (g₁ .says .3) in
-          let m = filler-there s a b g₂ in
+          let m = filler-there inRoot s a b g₂ in
           let y = spellFiller (g₂ .says .0) ++ code "<" ∷ rootLead x in
           let q : declaredLead (declared (g₁ .says .0) (g₂ .says .0) x) ≡ w ++ y = ap (λ (z : Bytes). drop 2 (z ++ y)) (sym (k .spelt)) in
           let n : length (declaredLead (declared (g₁ .says .0) (g₂ .says .0) x)) ≡ length w + length y = ap length q ∙ length-append w y in

@@ -15,7 +15,7 @@ use Rattle.reader.proofs.elements.element.Reads as element
 use Rattle.reader.proofs.elements.element.Kinds as element-kinds
 use Rattle.reader.proofs.elements.+content+element.Lts-element as element-lts
 use Rattle.reader.proofs.elements.end_tag.Reads as end-tag-reads
-use Rattle.reader.proofs.elements.filler_lt.Reads as filler-lt-reads
+use Rattle.fillers.proofs.filler_lt.Reads as filler-lt-reads
 use Rattle.reader.proofs.elements.start_tag.Reads as start-tag-reads
 use Rattle.reader.proofs.elements.+content+element.{statement}
 use Rattle.reader.proofs.elements.+content+element.Tie.{close}
