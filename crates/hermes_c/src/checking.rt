@@ -1,6 +1,7 @@
 // What a message says.
 ghost use Rattle.hermes_c.specs.Checking.{Finds};
 use cells::NUMBERS;
+use tags::attributes::PLACES;
 
 /// What the message behind the glue says: the refusal; the message's numbers and its BoardId; where it starts and ends; and the place that is
 /// malformed. What there is none of is 0.
@@ -16,7 +17,9 @@ pub extern "C" fn tryphomel_check(
     ensures { λ r. ⌜ Finds (now (bytes .entry)) r (now (start .exit)) (now (end .exit)) (now (place .exit)) (now (numbers .exit)) (now (id .exit)) ⌝ }
 {
     let mut all = [0u64; NUMBERS];
-    let f = reads::check_into(bytes, &mut all[1..]);
+    let mut table = [0u16; PLACES];
+    let o = reader::outline(bytes, &mut table);
+    let f = reads::check_outlined(bytes, o, &table, &mut all[1..]);
     all[0] = f.kind as u64;
     let b = f.id;
     *numbers = all;

@@ -251,5 +251,5 @@ module _ (may : Bool) (s : Bytes) (at : ℕ) (old t marks : List ℕ) (n i : ℕ
                   let m : v - 1 - at < 65_536 = omega (arith, k .short, y .upto, y .value-to, i-far) in
                   let o : 0 + length (spellAttributes (w .read)) ≡ i - at = let z = w .from in omega arith in
                   let r : stored t n (j - at) (d .past - at) (d .value - at) (v - 1 - at) ≡ stored (places 0 (w .read) ++ drop (4 * n) old) n (nameAt (i - at) a) (nameEnd (i - at) a) (valueAt (i - at) a) (valueEnd (i - at) a)
-                        = same-row n (w .places-are k) (sym (counted .name)) (sym (counted .past)) (sym (counted .value)) (sym (counted .end)) in
+                  = same-row n (w .places-are k) (sym (counted .name)) (sym (counted .past)) (sym (counted .value)) (sym (counted .end)) in
                   p .row l m ∙ r ∙ places-stored 0 (w .read) a n old (w .size) (omega (arith, k .whole)) (i - at) o

@@ -88,7 +88,7 @@ module _ (s : Bytes) (a b n : ℕ) (h : b + n ≤ length s) (less : a < b) (is-n
       go false e = e
       go true e =
           let q : getD s (b + length name) 0 ≡ getD s (a + length name) 0
-                = sym (part-at s b n (length name) l) ∙ ap (λ (y : Bytes). getD y (length name) 0) (same-true (take n (drop a s)) (take n (drop b s)) e) ∙ part-at s a n (length name) l in
+          = sym (part-at s b n (length name) l) ∙ ap (λ (y : Bytes). getD y (length name) 0) (same-true (take n (drop a s)) (take n (drop b s)) e) ∙ part-at s a n (length name) l in
           clash (sym (is-name (length name) l) ∙ ap nameByte q ∙ ends)
 
   pub stands-is : not (nameByte (getD s (a + n) 0)) && same (take n (drop a s)) x ≡ same name x

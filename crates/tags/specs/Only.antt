@@ -83,7 +83,7 @@ head-only {may} {s} {at} {old} {new} {new′} {r} {r′} x y = go (r .end) (r′
         let z = done-only s e e′ (h .upto) (h′ .upto) (h .reads) (h′ .reads) in
         let u : r .count ≡ r′ .count = h .counts ∙ ap (λ (x : Head). length (x .attributes)) (z .0) ∙ sym (h′ .counts) in
         let v : places 0 (h .head .attributes) ++ drop (4 * length (h .head .attributes)) old ≡ places 0 (h′ .head .attributes) ++ drop (4 * length (h′ .head .attributes)) old
-              = ap (λ (x : Head). places 0 (x .attributes) ++ drop (4 * length (x .attributes)) old) (z .0) in
+        = ap (λ (x : Head). places 0 (x .attributes) ++ drop (4 * length (x .attributes)) old) (z .0) in
         made (h .ends ∙ ap (λ (x : Head). x .empty) (z .0) ∙ sym (h′ .ends)) u (a ∙ ap Done (z .1) ∙ sym b) (λ _ _ k. h .table .noted k ∙ v ∙ sym (h′ .table .noted k))
     go (Done e) Unended a b h h′ = absurd (done≢more (h .reads) (h′ .1))
     go (Done e) (Dead p) a b h h′ = absurd (done≢bad (h .reads) (h′ .1 .reads))

@@ -479,7 +479,14 @@ pub fn head(s: &[u8], at: usize, may: bool, table: &mut [u16]) -> Tag
         let Step::Done(e) = r else {
             return failed(r);
         };
-        put(&mut *table, n, j - at, g.past - at, g.value - at, e - 1 - at);
+        put(
+            &mut *table,
+            n,
+            j - at,
+            g.past - at,
+            g.value - at,
+            e - 1 - at,
+        );
         n += 1;
         i = e;
     }
