@@ -35,7 +35,7 @@ use Rattle.decides.specs.declared.Ruling.{Ruling}
 use Rattle.decides.specs.declared.Decision.{Decision}
 
 -- a child has no value
-pub child-stands : {s : Bytes} {table : List ℕ} {count : ℕ} (c : Coded) {r : Words} → c .form ≡ 0 → r ≡ Absent → Stands s table count c r
+pub child-stands : {s : Bytes} {base : ℕ} {table : List ℕ} {count : ℕ} (c : Coded) {r : Words} → c .form ≡ 0 → r ≡ Absent → Stands s base table count c r
 unfolding valueIn
 child-stands c e q = record { says = λ h. q ∙ sym (ap (λ (b : Bool). valueIn (cond b features (attributeForm (c .form) (c .low) (c .high))) (place h (nameAt (c .line) (c .len)))) (eq-eqb (c .form) 0 e)) }
 
@@ -52,13 +52,13 @@ attribute-value k lo hi w = go (eqb k 1) (eqb k 2) (eqb k 3) (eqb k 4) (eqb k 5)
     go false false false false true = refl
     go false false false false false = refl
 
-pub attribute-stands : {s : Bytes} {table : List ℕ} {count : ℕ} (c : Coded) {n : Bytes} {r : Words} → (c .form ≡ 0 → ⊥) → n ≡ nameAt (c .line) (c .len) → Found s table count n r → Stands s table count c r
-attribute-stands {s} {table} {count} c {n} {r} other q found = record { says = λ h. subst (λ (n : Bytes). Found s table count n r) q found .says h ∙ sym (ap (λ (b : Bool). valueIn (cond b features (attributeForm (c .form) (c .low) (c .high))) (place h (nameAt (c .line) (c .len)))) (ne-eqb (c .form) 0 other) ∙ attribute-value (c .form) (c .low) (c .high) (place h (nameAt (c .line) (c .len)))) }
+pub attribute-stands : {s : Bytes} {base : ℕ} {table : List ℕ} {count : ℕ} (c : Coded) {n : Bytes} {r : Words} → (c .form ≡ 0 → ⊥) → n ≡ nameAt (c .line) (c .len) → Found s base table count n r → Stands s base table count c r
+attribute-stands {s} {base} {table} {count} c {n} {r} other q found = record { says = λ h. subst (λ (n : Bytes). Found s base table count n r) q found .says h ∙ sym (ap (λ (b : Bool). valueIn (cond b features (attributeForm (c .form) (c .low) (c .high))) (place h (nameAt (c .line) (c .len)))) (ne-eqb (c .form) 0 other) ∙ attribute-value (c .form) (c .low) (c .high) (place h (nameAt (c .line) (c .len)))) }
 
 -- no row before the i-th is refused: the rows from it on rule as all do
-pub record Tried-so-far (s : Bytes) (table : List ℕ) (count inside from n i : ℕ) : Type 0 where
+pub record Tried-so-far (s : Bytes) (base : ℕ) (table : List ℕ) (count inside from n i : ℕ) : Type 0 where
   pub upto : i ≤ n
-  pub rules : (h : Held s table count) (m : Bytes) (f : Forest) → Holds s inside f → firstRefused i (rowsFrom (from + i) (n - i)) (place h) (tree m (pairs h) f) ≡ firstRefused 0 (rowsFrom from n) (place h) (tree m (pairs h) f)
+  pub rules : (h : Held s base table count) (m : Bytes) (f : Forest) → Holds s inside f → firstRefused i (rowsFrom (from + i) (n - i)) (place h) (tree m (pairs h) f) ≡ firstRefused 0 (rowsFrom from n) (place h) (tree m (pairs h) f)
 
 ruled-zero : (n i : ℕ) (w : Words) (x : Ruling) → n ≡ 0 → ruledBy n i w x ≡ x
 ruled-zero zero i w x e = refl
@@ -68,43 +68,43 @@ ruled-some : (n i : ℕ) (w : Words) (x : Ruling) → (n ≡ 0 → ⊥) → rule
 ruled-some zero i w x e = absurd (e refl)
 ruled-some (suc n) i w x e = refl
 
-module _ (s : Bytes) (table : List ℕ) (count inside from n : ℕ) where
-  pub rule-starts : Tried-so-far s table count inside from n 0
+module _ (s : Bytes) (base : ℕ) (table : List ℕ) (count inside from n : ℕ) where
+  pub rule-starts : Tried-so-far s base table count inside from n 0
   rule-starts = record { upto = omega arith; rules = λ h m f z. (let a : from + 0 ≡ from = omega arith in let b : n - 0 ≡ n = omega arith in ap (λ (j : ℕ). firstRefused 0 (rowsFrom j (n - 0)) (place h) (tree m (pairs h) f)) a ∙ ap (λ (j : ℕ). firstRefused 0 (rowsFrom from j) (place h) (tree m (pairs h) f)) b) }
 
-  module _ {i : ℕ} {t : Tried} (g : Tried-so-far s table count inside from n i) (h : i < n) (row : Rowed s table count inside (codedAt (from + i)) t) where
+  module _ {i : ℕ} {t : Tried} (g : Tried-so-far s base table count inside from n i) (h : i < n) (row : Rowed s base table count inside (codedAt (from + i)) t) where
     line : Row
     line = rowOf (codedAt (from + i))
 
     -- the i-th row ahead of the others
-    at-row : (k : Held s table count) (m : Bytes) (f : Forest) → Holds s inside f → ruledBy (t .refusal) i (valueIn (line .form) (place k (line .name))) (firstRefused (suc i) (rowsFrom (from + (i + 1)) (n - (i + 1))) (place k) (tree m (pairs k) f)) ≡ firstRefused 0 (rowsFrom from n) (place k) (tree m (pairs k) f)
+    at-row : (k : Held s base table count) (m : Bytes) (f : Forest) → Holds s inside f → ruledBy (t .refusal) i (valueIn (line .form) (place k (line .name))) (firstRefused (suc i) (rowsFrom (from + (i + 1)) (n - (i + 1))) (place k) (tree m (pairs k) f)) ≡ firstRefused 0 (rowsFrom from n) (place k) (tree m (pairs k) f)
     unfolding firstRefused line
     at-row k m f z =
         ap (λ (x : ℕ). ruledBy x i (valueIn (line .form) (place k (line .name))) (firstRefused (suc i) (rowsFrom (from + (i + 1)) (n - (i + 1))) (place k) (tree m (pairs k) f))) (ap (λ (t : Tried). t .refusal) (row .says k m f z))
         ∙ ap (λ (l : List Row). firstRefused i l (place k) (tree m (pairs k) f)) (sym (next-row from n i h))
         ∙ g .rules k m f z
 
-    pub rule-goes-on : t .refusal ≡ 0 → Tried-so-far s table count inside from n (i + 1)
+    pub rule-goes-on : t .refusal ≡ 0 → Tried-so-far s base table count inside from n (i + 1)
     rule-goes-on e = record { upto = omega arith; rules = λ k m f z. (let a : i + 1 ≡ suc i = omega arith in ap (λ (j : ℕ). firstRefused j (rowsFrom (from + (i + 1)) (n - (i + 1))) (place k) (tree m (pairs k) f)) a ∙ sym (ruled-zero (t .refusal) i (valueIn (line .form) (place k (line .name))) (firstRefused (suc i) (rowsFrom (from + (i + 1)) (n - (i + 1))) (place k) (tree m (pairs k) f)) e) ∙ at-row k m f z) }
 
-    pub rule-found : {r : Ruling} {w : Words} (kind : ℕ) → rowsOf kind ≡ rowsFrom from n → (t .refusal ≡ 0 → ⊥) → Stands s table count (codedAt (from + i)) w → r ≡ record { refusal = t .refusal; row = i; value = w } → Rules s table count inside kind r
+    pub rule-found : {r : Ruling} {w : Words} (kind : ℕ) → rowsOf kind ≡ rowsFrom from n → (t .refusal ≡ 0 → ⊥) → Stands s base table count (codedAt (from + i)) w → r ≡ record { refusal = t .refusal; row = i; value = w } → Rules s base table count inside kind r
     unfolding line
     rule-found {r} {w} kind e some stands q = record { says = λ k m f z. q ∙ ap (λ (w : Words). record { refusal = t .refusal; row = i; value = w }) (stands .says k) ∙ sym (ruled-some (t .refusal) i (valueIn (line .form) (place k (line .name))) (firstRefused (suc i) (rowsFrom (from + (i + 1)) (n - (i + 1))) (place k) (tree m (pairs k) f)) some) ∙ at-row k m f z ∙ ap (λ (l : List Row). firstRefused 0 l (place k) (tree m (pairs k) f)) (sym e) }
 
-  pub rule-ends : {i : ℕ} {r : Ruling} (kind : ℕ) → rowsOf kind ≡ rowsFrom from n → Tried-so-far s table count inside from n i → n ≤ i → r ≡ unruled → Rules s table count inside kind r
+  pub rule-ends : {i : ℕ} {r : Ruling} (kind : ℕ) → rowsOf kind ≡ rowsFrom from n → Tried-so-far s base table count inside from n i → n ≤ i → r ≡ unruled → Rules s base table count inside kind r
   unfolding firstRefused
   rule-ends {i} kind e g h q = record { says = λ k m f z. q ∙ ap (λ (l : List Row). firstRefused i l (place k) (tree m (pairs k) f)) (sym (no-row from n i h)) ∙ g .rules k m f z ∙ ap (λ (l : List Row). firstRefused 0 l (place k) (tree m (pairs k) f)) (sym e) }
 
 -- of the message that an outline describes
 module _ {s : Bytes} {old new : List ℕ} {o : Outline} (p : Outlined s old new o) where
-  pub decides-end : (start end : ℕ) {k : ℕ} {x : Ruling} {r : Decision} → o .answer ≡ Ends start end → k ≡ kindOf (take (o .to - o .from) (drop (o .from) s)) → Rules s new (o .count) (o .inside) k x → r ≡ decidedBy k x → Decides s r
-  decides-end start end {k} {x} e q t h =
+  pub decides-end : (start end : ℕ) {k : ℕ} {x : Ruling} {r : Decision} → length old ≡ 128 → o .answer ≡ Ends start end → k ≡ kindOf (take (o .to - o .from) (drop (o .from) s)) → Rules s (o .to) new (o .count) (o .inside) k x → r ≡ decidedBy k x → Decides s r
+  decides-end start end {k} {x} whole e q t h =
       let a = accepted p e in
       ends start end (answers p e) (a .layout) (a .laid)
       (h
-      ∙ ap (decidedBy k) (t .says (accepted-held a) (take (o .to - o .from) (drop (o .from) s)) (childrenOf (readElement (child a))) (accepted-holds a))
-      ∙ ap (λ (k : ℕ). decidedBy k (firstRefused 0 (rowsOf k) (place (accepted-held a)) (tree (take (o .to - o .from) (drop (o .from) s)) (pairs (accepted-held a)) (childrenOf (readElement (child a)))))) q
-      ∙ as-read a (λ k place t. decidedBy k (firstRefused 0 (rowsOf k) place t))
+      ∙ ap (decidedBy k) (t .says (accepted-held a whole) (take (o .to - o .from) (drop (o .from) s)) (childrenOf (readElement (child a))) (accepted-holds a))
+      ∙ ap (λ (k : ℕ). decidedBy k (firstRefused 0 (rowsOf k) (place (accepted-held a whole)) (tree (take (o .to - o .from) (drop (o .from) s)) (pairs (accepted-held a whole)) (childrenOf (readElement (child a)))))) q
+      ∙ as-read a whole (λ k place t. decidedBy k (firstRefused 0 (rowsOf k) place t))
       ∙ ap (λ (rows : List Row). decidedBy (saidOf (readLayout (a .layout)) .kind) (firstRefused 0 rows (placesIn start (a .layout)) (childOf (readLayout (a .layout))))) (sym (rows-table (saidOf (readLayout (a .layout)) .kind) (childOf (readLayout (a .layout))))))
 
   pub decides-more : (start : ℕ) {r : Decision} → o .answer ≡ More start → r ≡ undecided 1 → Decides s r

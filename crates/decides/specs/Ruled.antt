@@ -14,9 +14,9 @@ use Rattle.decides.specs.Deciding.{valueIn, firstRefused}
 use Rattle.decides.specs.declared.Ruling.{Ruling}
 
 -- where the raw value of a row's attribute stands
-pub record Stands (s : Bytes) (table : List ℕ) (count : ℕ) (c : Coded) (r : Words) : Type 0 where
-  pub says : (h : Held s table count) → r ≡ valueIn (rowOf c .form) (place h (rowOf c .name))
+pub record Stands (s : Bytes) (base : ℕ) (table : List ℕ) (count : ℕ) (c : Coded) (r : Words) : Type 0 where
+  pub says : (h : Held s base table count) → r ≡ valueIn (rowOf c .form) (place h (rowOf c .name))
 
 -- the first row of the kind that is refused
-pub record Rules (s : Bytes) (table : List ℕ) (count inside k : ℕ) (r : Ruling) : Type 0 where
-  pub says : (h : Held s table count) (m : Bytes) (f : Forest) → Holds s inside f → r ≡ firstRefused 0 (rowsOf k) (place h) (tree m (pairs h) f)
+pub record Rules (s : Bytes) (base : ℕ) (table : List ℕ) (count inside k : ℕ) (r : Ruling) : Type 0 where
+  pub says : (h : Held s base table count) (m : Bytes) (f : Forest) → Holds s inside f → r ≡ firstRefused 0 (rowsOf k) (place h) (tree m (pairs h) f)

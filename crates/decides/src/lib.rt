@@ -69,30 +69,31 @@ fn made(kind: u8, x: Ruling) -> Decision
 }
 
 // Where the raw value of a row's attribute stands; a child has none.
-fn value_of(s: &[u8], table: &[usize], count: usize, names: &[u8], row: Row) -> Words
-    requires { ⌜ Held (now s) (now table) count × (now names ≡ letters) × Sound row ⌝ }
-    ensures { λ r. ⌜ Stands (now (s .entry)) (now (table .entry)) count row r ⌝ }
+fn value_of(s: &[u8], base: usize, table: &[u16], count: usize, names: &[u8], row: Row) -> Words
+    requires { ⌜ Held (now s) base (now table) count × (now names ≡ letters) × Sound row ⌝ }
+    ensures { λ r. ⌜ Stands (now (s .entry)) base (now (table .entry)) count row r ⌝ }
 {
     let form = row.form;
     if form == 0 {
         return Words::Absent;
     }
     let name = name_at(names, row.line as usize, row.len as usize);
-    find(s, table, count, name)
+    find(s, base, table, count, name)
 }
 
 // Tries the rows of the kind in order, up to the first that is refused.
 fn rule(
     s: &[u8],
-    table: &[usize],
+    base: usize,
+    table: &[u16],
     count: usize,
     inside: usize,
     kind: u8,
     numbers: &[u64],
     names: &[u8],
 ) -> Ruling
-    requires { ⌜ Held (now s) (now table) count × (now numbers ≡ coding) × (now names ≡ letters) ⌝ }
-    ensures { λ r. ⌜ Rules (now (s .entry)) (now (table .entry)) count inside kind r ⌝ }
+    requires { ⌜ Held (now s) base (now table) count × (now numbers ≡ coding) × (now names ≡ letters) ⌝ }
+    ensures { λ r. ⌜ Rules (now (s .entry)) base (now (table .entry)) count inside kind r ⌝ }
 {
     let range = rows_of(kind);
     let from = range.from;
@@ -100,10 +101,10 @@ fn rule(
     let mut i = 0;
     while i < n {
         let row = row_at(numbers, from + i);
-        let t = try_row(s, table, count, inside, names, row);
+        let t = try_row(s, base, table, count, inside, names, row);
         let refusal = t.refusal;
         if refusal != 0 {
-            let value = value_of(s, table, count, names, row);
+            let value = value_of(s, base, table, count, names, row);
             return Ruling {
                 refusal: refusal,
                 row: i,
@@ -119,7 +120,7 @@ fn rule(
 pub fn decided(s: &[u8]) -> Decision
     ensures { λ r. ⌜ Decides (now (s .entry)) r ⌝ }
 {
-    let mut table = [0usize; PLACES];
+    let mut table = [0u16; PLACES];
     let o = reader::outline(s, &mut table);
     let a = o.answer;
     match a {
@@ -129,7 +130,7 @@ pub fn decided(s: &[u8]) -> Decision
             let kind = kind_named(&s[from..to]);
             let numbers = NUMBERS;
             let names = NAMES;
-            let x = rule(s, &table, o.count, o.inside, kind, &numbers, &names);
+            let x = rule(s, to, &table, o.count, o.inside, kind, &numbers, &names);
             made(kind, x)
         }
         Answer::More { start } => unread(1),

@@ -37,10 +37,10 @@ named-shorter (full t c g) =
     let b = length-append (t .name ++ (spellAttributes (t .attributes) ++ (t .trail ++ text ">"))) (spellContent c ++ spellEnd (t .name) g) in
     omega arith
 
-pub found-ahead : {s : Bytes} {at : ℕ} {old new : List ℕ} {r : Child} → NextChild s at old new r → r .found ≡ true → Ahead s at r
-found-ahead {s} {at} {old} {new} {r} p q = go (p .found q)
+pub found-ahead : {s : Bytes} {at : ℕ} {r : Child} → NextChild s at r → r .found ≡ true → Ahead s at r
+found-ahead {s} {at} {r} p q = go (p .found q)
   where
-    go : Stands s at old new r → Ahead s at r
+    go : Stands s at r → Ahead s at r
     go t =
         let n = named-shorter (t .x) in
         let a = length-append (spellFiller (t .f)) (spellElement (t .x) ++ t .next .rest) in
@@ -95,12 +95,12 @@ children-stand s (full t c g) {from} {to} {inside} rest (good-full a b h) e p = 
         let v = length-append (t .trail) (text ">") in
         omega arith
 
-module _ {s : Bytes} {inside : ℕ} {name : Bytes} {at : ℕ} {old new : List ℕ} {r : Child} (so-far : Searched s inside name at) (p : NextChild s at old new r) where
+module _ {s : Bytes} {inside : ℕ} {name : Bytes} {at : ℕ} {r : Child} (so-far : Searched s inside name at) (p : NextChild s at r) where
   -- the content has ended
   pub search-ends : {u : Named} → r .found ≡ false → u ≡ unnamedChild → FirstIn s inside name u
   search-ends {u} q e = record { says = λ f h. go f (so-far .left f h) }
     where
-      at-end : (f : Forest) (c : Content) (end : Bytes) → hasChild name f ≡ hasChild name (readContent c) → ((o : Bool) → featured name o f ≡ featured name o (readContent c)) → InContent s at c end old new r → First s name f u
+      at-end : (f : Forest) (c : Content) (end : Bytes) → hasChild name f ≡ hasChild name (readContent c) → ((o : Bool) → featured name o f ≡ featured name o (readContent c)) → InContent s at c end r → First s name f u
       at-end f (bare y) end a b i = no-child e a b
       at-end f (child y x c) end a b i = clash (sym (i .found) ∙ q)
 
@@ -134,7 +134,7 @@ module _ {s : Bytes} {inside : ℕ} {name : Bytes} {at : ℕ} {old new : List �
     pub search-finds : true ≡ same name (take (r .to - r .from) (drop (r .from) s)) → FirstIn s inside name (record { found = true; inside = r .inside })
     search-finds m = record { says = λ f h. go f (so-far .left f h) }
       where
-        at-child : (f : Forest) (c : Content) (end : Bytes) → GoodContent (DEPTH - 2) c → drop at s ≡ spellContent c ++ end → hasChild name f ≡ hasChild name (readContent c) → ((o : Bool) → featured name o f ≡ featured name o (readContent c)) → InContent s at c end old new r → First s name f (record { found = true; inside = r .inside })
+        at-child : (f : Forest) (c : Content) (end : Bytes) → GoodContent (DEPTH - 2) c → drop at s ≡ spellContent c ++ end → hasChild name f ≡ hasChild name (readContent c) → ((o : Bool) → featured name o f ≡ featured name o (readContent c)) → InContent s at c end r → First s name f (record { found = true; inside = r .inside })
         at-child f (bare y) end k e a b i = absurd (not-bare i)
         at-child f (child y x c) end k e a b i =
             let n = here y x c end k e in
@@ -157,7 +157,7 @@ module _ {s : Bytes} {inside : ℕ} {name : Bytes} {at : ℕ} {old new : List �
         deeper : {f : Filler} {x : Element} {c : Content} → GoodContent (DEPTH - 2) (child f x c) → GoodContent (DEPTH - 2) c
         deeper (good-child h k m) = m
 
-        behind-child : (f : Forest) (c : Content) (n g rest : Bytes) → GoodContent (DEPTH - 2) c → drop at s ≡ spellContent c ++ (spellEnd n g ++ rest) → hasChild name f ≡ hasChild name (readContent c) → ((o : Bool) → featured name o f ≡ featured name o (readContent c)) → InContent s at c (spellEnd n g ++ rest) old new r → LeftOver s name f (r .next)
+        behind-child : (f : Forest) (c : Content) (n g rest : Bytes) → GoodContent (DEPTH - 2) c → drop at s ≡ spellContent c ++ (spellEnd n g ++ rest) → hasChild name f ≡ hasChild name (readContent c) → ((o : Bool) → featured name o f ≡ featured name o (readContent c)) → InContent s at c (spellEnd n g ++ rest) r → LeftOver s name f (r .next)
         behind-child f (bare y) n g rest k e a b i = absurd (not-bare i)
         behind-child f (child y x c) n g rest k e a b i =
             let j = same-as x (parts y x (here y x c (spellEnd n g ++ rest) k e)) m in

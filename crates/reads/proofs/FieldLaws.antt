@@ -28,19 +28,19 @@ pub record Stands (s name : Bytes) (l : List Pair) (p : Span) : Type 0 where
 pub stands-so : {s name : Bytes} {l : List Pair} {p : Span} → ReadsAt s name l p → Stands s name l p
 stands-so r = record { items = r .text .items; loose = record { good = loosen (r .text .good); spelt = r .text .spelt }; inside = r .inside; worth = λ t o. has-worth (r .has) t o ∙ ap (judged t) (r .text .reads) }
 
-module _ {s : Bytes} {table : List ℕ} {count : ℕ} {name : Bytes} {w : Words} (found : Found s table count name w) where
-  pub there : (h : Held s table count) (p : Span) → w ≡ Present p → Stands s name (pairs h) p
-  there h p e = stands-so (reads-at s (h .at) (h .attributes) (h .after) (h .good) (h .stand) name p (sym (found .says h) ∙ e))
+module _ {s : Bytes} {base : ℕ} {table : List ℕ} {count : ℕ} {name : Bytes} {w : Words} (found : Found s base table count name w) where
+  pub there : (h : Held s base table count) (p : Span) → w ≡ Present p → Stands s name (pairs h) p
+  there h p e = stands-so (reads-at s base (h .attributes) (h .after) (h .good) (h .stand) name p (sym (found .says h) ∙ e))
 
-  pub tries-absent : {A : Type 0} (f : Words → Result → A) (t : Form) (o : Bool) {r : A} → w ≡ Absent → r ≡ f w (without o) → Tries f t o s table count name r
+  pub tries-absent : {A : Type 0} (f : Words → Result → A) (t : Form) (o : Bool) {r : A} → w ≡ Absent → r ≡ f w (without o) → Tries f t o s base table count name r
   tries-absent f t o e k =
-      record { says = λ h. k ∙ ap (λ (w : Words). f w (without o)) (found .says h) ∙ ap (f (place h name)) (sym (missing-at (h .at) (h .attributes) name (sym (found .says h) ∙ e) t o)) }
+      record { says = λ h. k ∙ ap (λ (w : Words). f w (without o)) (found .says h) ∙ ap (f (place h name)) (sym (missing-at base (h .attributes) name (sym (found .says h) ∙ e) t o)) }
 
   pub tries-present : {A : Type 0} (f : Words → Result → A) (t : Form) (o : Bool) (p : Span) {r : A} → w ≡ Present p
-      → ((l : List Item) → Loose (take (p .start + p .len - p .start) (drop (p .start) s)) l → r ≡ f (Present p) (judged t (readValue l))) → Tries f t o s table count name r
+      → ((l : List Item) → Loose (take (p .start + p .len - p .start) (drop (p .start) s)) l → r ≡ f (Present p) (judged t (readValue l))) → Tries f t o s base table count name r
   tries-present f t o p {r} e k = record { says = λ h. go h (there h p e) }
     where
-      go : (h : Held s table count) → Stands s name (pairs h) p → r ≡ f (place h name) (given t o name (pairs h))
+      go : (h : Held s base table count) → Stands s name (pairs h) p → r ≡ f (place h name) (given t o name (pairs h))
       go h x =
           let q : p .len ≡ p .start + p .len - p .start = omega arith in
           k (x .items) (subst (λ (n : ℕ). Loose (take n (drop (p .start) s)) (x .items)) q (x .loose)) ∙ ap (λ (w : Words). f w (judged t (readValue (x .items)))) (sym e ∙ found .says h) ∙ ap (f (place h name)) (sym (x .worth t o))

@@ -4,6 +4,7 @@ use mathlib.Core.List.{List, [], _∷_, _++_}
 use mathlib.Core.Bool.{Bool, true, false, cond}
 use Prim.Native.Nat.{ℕ, zero, suc, _+_, _-_, _*_, _≤_, _<_}
 use native.Mathlib.Omega.{arith}
+use native.Mathlib.Nat.{add-zero}
 use lib.ListN.{length, length-append, length-drop, take, drop, getD}
 use Prim.Native.Char.{code}
 use Rattle.grammar.specs.Bytes.{Bytes, same}
@@ -16,30 +17,40 @@ use Rattle.value.specs.declared.text.Words.the-variants.{Absent, Present}
 use Rattle.message.specs.Checked.{placeOf}
 use Rattle.reads.specs.Held.{Held, place}
 
--- from row i on the table holds the attributes that are left, which stand from `at` on
-pub record Left (s : Bytes) (table : List ℕ) (count i : ℕ) (name : Bytes) (whole : Words) : Type 0 where
+-- from row i on the table holds the attributes that are left, which stand from `at` on, counted from `base`
+pub record Left (s : Bytes) (base : ℕ) (table : List ℕ) (count i : ℕ) (name : Bytes) (whole : Words) : Type 0 where
   pub at : ℕ
   pub attributes : List Attribute
   pub after : Bytes
   pub rest : List ℕ
   pub good : GoodEach attributes
-  pub stand : drop at s ≡ spellAttributes attributes ++ after
+  pub stand : drop (base + at) s ≡ spellAttributes attributes ++ after
   pub rows : drop (4 * i) table ≡ places at attributes ++ rest
   pub counts : count ≡ i + length attributes
-  pub same-place : whole ≡ placeOf at attributes name
+  pub same-place : whole ≡ placeOf (base + at) attributes name
 
-pub left-all : {s : Bytes} {table : List ℕ} {count : ℕ} (h : Held s table count) (name : Bytes) → Left s table count 0 name (place h name)
-left-all h name = record { at = h .at; attributes = h .attributes; after = h .after; rest = h .rest; good = h .good; stand = h .stand; rows = h .rows; counts = let z = h .counts in omega arith; same-place = refl }
+pub left-all : {s : Bytes} {base : ℕ} {table : List ℕ} {count : ℕ} (h : Held s base table count) (name : Bytes) → Left s base table count 0 name (place h name)
+left-all {s} {base} h name = record {
+  at = 0;
+  attributes = h .attributes;
+  after = h .after;
+  rest = h .rest;
+  good = h .good;
+  stand = ap (λ (n : ℕ). drop n s) (add-zero base) ∙ h .stand;
+  rows = h .rows;
+  counts = let z = h .counts in omega arith;
+  same-place = ap (λ (n : ℕ). placeOf n (h .attributes) name) (sym (add-zero base));
+}
 
 -- the row i, with its four places: what stands there, and what is left
-pub record RowAt (s : Bytes) (table : List ℕ) (count i : ℕ) (name : Bytes) (whole : Words) (from to start end : ℕ) : Type 0 where
+pub record RowAt (s : Bytes) (base : ℕ) (table : List ℕ) (count i : ℕ) (name : Bytes) (whole : Words) (from to start end : ℕ) : Type 0 where
   pub long : 4 * i + 3 < length table
   pub name-order : from ≤ to
   pub name-in : to ≤ length s
   pub value-order : start ≤ end
   pub value-in : end ≤ length s
   pub hit : same name (take (to - from) (drop from s)) ≡ true → whole ≡ Present (record { start = start; len = end - start })
-  pub miss : same name (take (to - from) (drop from s)) ≡ false → Left s table count (i + 1) name whole
+  pub miss : same name (take (to - from) (drop from s)) ≡ false → Left s base table count (i + 1) name whole
 
 pub first-of : (t : List ℕ) (n x : ℕ) (l : List ℕ) → drop n t ≡ x ∷ l → (n < length t) × (getD t n 0 ≡ x) × (drop (n + 1) t ≡ l)
 first-of [] zero x l e = absurd (let z : _≡_ {A = ℕ} 0 1 = cc in omega arith)
@@ -82,18 +93,19 @@ attribute-in s at a l y e =
     let z = length-drop at s in
     omega arith
 
-module _ (s : Bytes) (table : List ℕ) (count i : ℕ) (name : Bytes) (whole : Words) (at : ℕ) (a : Attribute) (l : List Attribute) (after : Bytes) (rest : List ℕ)
+module _ (s : Bytes) (base : ℕ) (table : List ℕ) (count i : ℕ) (name : Bytes) (whole : Words) (rel at : ℕ) (a : Attribute) (l : List Attribute) (after : Bytes) (rest : List ℕ)
     (good : GoodEach l)
     (stand : drop at s ≡ spellAttributes (a ∷ l) ++ after)
-    (rows : drop (4 * i) table ≡ places at (a ∷ l) ++ rest)
+    (rows : drop (4 * i) table ≡ places rel (a ∷ l) ++ rest)
     (counts : count ≡ i + suc (length l))
-    (same-place : whole ≡ placeOf at (a ∷ l) name) where
+    (same-place : whole ≡ placeOf at (a ∷ l) name)
+    (there : at ≡ base + rel) where
   stands : AttributeAt s at a (spellAttributes l ++ after)
   stands = attribute-stands s at a l after stand
 
-  table-row : Four table (4 * i) (nameAt at a) (nameEnd at a) (valueAt at a) (valueEnd at a) (places (valueEnd at a + 1) l ++ rest)
+  table-row : Four table (4 * i) (nameAt rel a) (nameEnd rel a) (valueAt rel a) (valueEnd rel a) (places (valueEnd rel a + 1) l ++ rest)
   unfolding places
-  table-row = four-of table (4 * i) (nameAt at a) (nameEnd at a) (valueAt at a) (valueEnd at a) (places (valueEnd at a + 1) l ++ rest) rows
+  table-row = four-of table (4 * i) (nameAt rel a) (nameEnd rel a) (valueAt rel a) (valueEnd rel a) (places (valueEnd rel a + 1) l ++ rest) rows
 
   placed : (z : Bool) → same name (take (nameEnd at a - nameAt at a) (drop (nameAt at a) s)) ≡ z → whole ≡ cond z (Present (record { start = valueAt at a; len = length (spellValue (a .value)) })) (placeOf (valueEnd at a + 1) l name)
   unfolding placeOf
@@ -101,7 +113,10 @@ module _ (s : Bytes) (table : List ℕ) (count i : ℕ) (name : Bytes) (whole : 
       let f : same name (a .name) ≡ z = ap (λ (n : Bytes). same name n) (sym (stands .name)) ∙ e in
       same-place ∙ ap (λ (z : Bool). cond z (Present (record { start = valueAt at a; len = length (spellValue (a .value)) })) (placeOf (valueEnd at a + 1) l name)) f
 
-  this-row : RowAt s table count i name whole (nameAt at a) (nameEnd at a) (valueAt at a) (valueEnd at a)
+  next : base + (valueEnd rel a + 1) ≡ valueEnd at a + 1
+  next = omega arith
+
+  this-row : RowAt s base table count i name whole (nameAt at a) (nameEnd at a) (valueAt at a) (valueEnd at a)
   this-row = record {
     long = table-row .long;
     name-order = omega arith;
@@ -110,42 +125,46 @@ module _ (s : Bytes) (table : List ℕ) (count i : ℕ) (name : Bytes) (whole : 
     value-in = let z = attribute-in s at a l after stand in omega arith;
     hit = λ e. let q : length (spellValue (a .value)) ≡ valueEnd at a - valueAt at a = omega arith in placed true e ∙ ap (λ (n : ℕ). Present (record { start = valueAt at a; len = n })) q;
     miss = λ e. record {
-      at = valueEnd at a + 1;
+      at = valueEnd rel a + 1;
       attributes = l;
       after = after;
       rest = rest;
       good = good;
-      stand = stands .next;
-      rows = let q : 4 * i + 4 ≡ 4 * (i + 1) = omega arith in subst (λ (n : ℕ). drop n table ≡ places (valueEnd at a + 1) l ++ rest) q (table-row .rest);
+      stand = ap (λ (n : ℕ). drop n s) next ∙ stands .next;
+      rows = let q : 4 * i + 4 ≡ 4 * (i + 1) = omega arith in subst (λ (n : ℕ). drop n table ≡ places (valueEnd rel a + 1) l ++ rest) q (table-row .rest);
       counts = omega arith;
-      same-place = placed false e;
+      same-place = placed false e ∙ ap (λ (n : ℕ). placeOf n l name) (sym next);
     };
   }
 
-  by-table : RowAt s table count i name whole (getD table (4 * i) 0) (getD table (4 * i + 1) 0) (getD table (4 * i + 2) 0) (getD table (4 * i + 3) 0)
+  by-table : RowAt s base table count i name whole (base + getD table (4 * i) 0) (base + getD table (4 * i + 1) 0) (base + getD table (4 * i + 2) 0) (base + getD table (4 * i + 3) 0)
   by-table =
-      subst (λ (x : ℕ). RowAt s table count i name whole x (getD table (4 * i + 1) 0) (getD table (4 * i + 2) 0) (getD table (4 * i + 3) 0)) (sym (table-row .one))
-      (subst (λ (x : ℕ). RowAt s table count i name whole (nameAt at a) x (getD table (4 * i + 2) 0) (getD table (4 * i + 3) 0)) (sym (table-row .two))
-      (subst (λ (x : ℕ). RowAt s table count i name whole (nameAt at a) (nameEnd at a) x (getD table (4 * i + 3) 0)) (sym (table-row .three))
-      (subst (λ (x : ℕ). RowAt s table count i name whole (nameAt at a) (nameEnd at a) (valueAt at a) x) (sym (table-row .four)) this-row)))
+      let p₁ : nameAt at a ≡ base + getD table (4 * i) 0 = omega (arith, table-row .one) in
+      let p₂ : nameEnd at a ≡ base + getD table (4 * i + 1) 0 = omega (arith, table-row .two) in
+      let p₃ : valueAt at a ≡ base + getD table (4 * i + 2) 0 = omega (arith, table-row .three) in
+      let p₄ : valueEnd at a ≡ base + getD table (4 * i + 3) 0 = omega (arith, table-row .four) in
+      subst (λ (x : ℕ). RowAt s base table count i name whole x (base + getD table (4 * i + 1) 0) (base + getD table (4 * i + 2) 0) (base + getD table (4 * i + 3) 0)) p₁
+      (subst (λ (x : ℕ). RowAt s base table count i name whole (nameAt at a) x (base + getD table (4 * i + 2) 0) (base + getD table (4 * i + 3) 0)) p₂
+      (subst (λ (x : ℕ). RowAt s base table count i name whole (nameAt at a) (nameEnd at a) x (base + getD table (4 * i + 3) 0)) p₃
+      (subst (λ (x : ℕ). RowAt s base table count i name whole (nameAt at a) (nameEnd at a) (valueAt at a) x) p₄ this-row)))
 
 each-but : {a : Attribute} {l : List Attribute} → GoodEach (a ∷ l) → GoodEach l
 each-but (good-each g r) = r
 
-pub row-at : {s : Bytes} {table : List ℕ} {count i : ℕ} {name : Bytes} {whole : Words} → Left s table count i name whole → i < count
-    → RowAt s table count i name whole (getD table (4 * i) 0) (getD table (4 * i + 1) 0) (getD table (4 * i + 2) 0) (getD table (4 * i + 3) 0)
-row-at {s} {table} {count} {i} {name} {whole} f k = go (f .attributes) (f .good) (f .stand) (f .rows) (f .counts) (f .same-place)
+pub row-at : {s : Bytes} {base : ℕ} {table : List ℕ} {count i : ℕ} {name : Bytes} {whole : Words} → Left s base table count i name whole → i < count
+    → RowAt s base table count i name whole (base + getD table (4 * i) 0) (base + getD table (4 * i + 1) 0) (base + getD table (4 * i + 2) 0) (base + getD table (4 * i + 3) 0)
+row-at {s} {base} {table} {count} {i} {name} {whole} f k = go (f .attributes) (f .good) (f .stand) (f .rows) (f .counts) (f .same-place)
   where
-    go : (l : List Attribute) → GoodEach l → drop (f .at) s ≡ spellAttributes l ++ f .after → drop (4 * i) table ≡ places (f .at) l ++ f .rest → count ≡ i + length l → whole ≡ placeOf (f .at) l name
-        → RowAt s table count i name whole (getD table (4 * i) 0) (getD table (4 * i + 1) 0) (getD table (4 * i + 2) 0) (getD table (4 * i + 3) 0)
+    go : (l : List Attribute) → GoodEach l → drop (base + f .at) s ≡ spellAttributes l ++ f .after → drop (4 * i) table ≡ places (f .at) l ++ f .rest → count ≡ i + length l → whole ≡ placeOf (base + f .at) l name
+        → RowAt s base table count i name whole (base + getD table (4 * i) 0) (base + getD table (4 * i + 1) 0) (base + getD table (4 * i + 2) 0) (base + getD table (4 * i + 3) 0)
     go [] g a b c d = absurd (omega arith)
-    go (x ∷ l) g a b c d = by-table s table count i name whole (f .at) x l (f .after) (f .rest) (each-but g) a b c d
+    go (x ∷ l) g a b c d = by-table s base table count i name whole (f .at) (base + f .at) x l (f .after) (f .rest) (each-but g) a b c d refl
 
 -- behind the last row there is none of the name
-pub none-left : {s : Bytes} {table : List ℕ} {count i : ℕ} {name : Bytes} {whole : Words} → Left s table count i name whole → count ≤ i → Absent ≡ whole
+pub none-left : {s : Bytes} {base : ℕ} {table : List ℕ} {count i : ℕ} {name : Bytes} {whole : Words} → Left s base table count i name whole → count ≤ i → Absent ≡ whole
 unfolding placeOf
-none-left {count = count} {i = i} {name = name} {whole = whole} f k = go (f .attributes) (f .counts) (f .same-place)
+none-left {base = base} {count = count} {i = i} {name = name} {whole = whole} f k = go (f .attributes) (f .counts) (f .same-place)
   where
-    go : (l : List Attribute) → count ≡ i + length l → whole ≡ placeOf (f .at) l name → Absent ≡ whole
+    go : (l : List Attribute) → count ≡ i + length l → whole ≡ placeOf (base + f .at) l name → Absent ≡ whole
     go [] c d = sym d
     go (x ∷ l) c d = absurd (omega arith)

@@ -74,20 +74,20 @@ put-three l at x y z h = let a : at + 1 ≡ suc at = omega arith in let b : at +
 kept : (l : List ℕ) (at x y z : ℕ) → at + 3 ≤ length l → length (take at l ++ (x ∷ y ∷ z ∷ drop (at + 3) l)) ≡ length l
 kept l at x y z h = let a = length-append (take at l) (x ∷ y ∷ z ∷ drop (at + 3) l) in let b = length-take-le at l (omega arith) in let d = length-drop (at + 3) l in omega arith
 
-pub record Going (s : Bytes) (table : List ℕ) (count inside from n : ℕ) (before cells : List ℕ) (refusal i : ℕ) : Type 0 where
+pub record Going (s : Bytes) (base : ℕ) (table : List ℕ) (count inside from n : ℕ) (before cells : List ℕ) (refusal i : ℕ) : Type 0 where
   pub upto : i ≤ n
   pub long : length cells ≡ length before
-  pub refuses : (h : Held s table count) (m : Bytes) (f : Forest) → Holds s inside f → first refusal (refusalOf (rowsFrom (from + i) (n - i)) (tree m (pairs h) f)) ≡ refusalOf (rowsFrom from n) (tree m (pairs h) f)
-  pub fills : (h : Held s table count) (m : Bytes) (f : Forest) → Holds s inside f → Filled before cells i (cellsOf (keptIn (rowsFrom (from + i) (n - i)) (place h) (tree m (pairs h) f))) (cellsOf (keptIn (rowsFrom from n) (place h) (tree m (pairs h) f)))
+  pub refuses : (h : Held s base table count) (m : Bytes) (f : Forest) → Holds s inside f → first refusal (refusalOf (rowsFrom (from + i) (n - i)) (tree m (pairs h) f)) ≡ refusalOf (rowsFrom from n) (tree m (pairs h) f)
+  pub fills : (h : Held s base table count) (m : Bytes) (f : Forest) → Holds s inside f → Filled before cells i (cellsOf (keptIn (rowsFrom (from + i) (n - i)) (place h) (tree m (pairs h) f))) (cellsOf (keptIn (rowsFrom from n) (place h) (tree m (pairs h) f)))
 
-module _ (s : Bytes) (table : List ℕ) (count inside from n : ℕ) (before : List ℕ) where
-  pub loop-starts : Going s table count inside from n before before 0 0
+module _ (s : Bytes) (base : ℕ) (table : List ℕ) (count inside from n : ℕ) (before : List ℕ) where
+  pub loop-starts : Going s base table count inside from n before before 0 0
   loop-starts =
       let e : rowsFrom (from + 0) (n - 0) ≡ rowsFrom from n = (let a : from + 0 ≡ from = omega arith in let b : n - 0 ≡ n = omega arith in ap (λ (j : ℕ). rowsFrom j (n - 0)) a ∙ ap (rowsFrom from) b) in
       record { upto = omega arith; long = refl; refuses = λ h m f z. ap (λ (l : List Row). refusalOf l (tree m (pairs h) f)) e; fills = λ h m f z. record { front = []; are = refl; long = refl; joined = ap (λ (l : List Row). cellsOf (keptIn l (place h) (tree m (pairs h) f))) e } }
 
-  pub loop-goes-on : {cells cells′ : List ℕ} {refusal refusal′ i : ℕ} {t : Tried} → Going s table count inside from n before cells refusal i → i < n → Rowed s table count inside (codedAt (from + i)) t
-      → cells′ ≡ take (3 * i) cells ++ (t .there ∷ t .a ∷ t .b ∷ drop (3 * i + 3) cells) → 3 * i + 3 ≤ length cells → refusal′ ≡ first refusal (t .refusal) → Going s table count inside from n before cells′ refusal′ (i + 1)
+  pub loop-goes-on : {cells cells′ : List ℕ} {refusal refusal′ i : ℕ} {t : Tried} → Going s base table count inside from n before cells refusal i → i < n → Rowed s base table count inside (codedAt (from + i)) t
+      → cells′ ≡ take (3 * i) cells ++ (t .there ∷ t .a ∷ t .b ∷ drop (3 * i + 3) cells) → 3 * i + 3 ≤ length cells → refusal′ ≡ first refusal (t .refusal) → Going s base table count inside from n before cells′ refusal′ (i + 1)
   unfolding refusalOf
   loop-goes-on {cells} {cells′} {refusal} {refusal′} {i} {t} g h row e fits r = record { upto = omega arith; long = ap length e ∙ kept cells (3 * i) (t .there) (t .a) (t .b) fits ∙ g .long; refuses = refuses; fills = fills }
     where
@@ -97,7 +97,7 @@ module _ (s : Bytes) (table : List ℕ) (count inside from n : ℕ) (before : Li
       line : Row
       line = rowOf (codedAt (from + i))
 
-      refuses : (h : Held s table count) (m : Bytes) (f : Forest) → Holds s inside f → first refusal′ (refusalOf rest (tree m (pairs h) f)) ≡ refusalOf (rowsFrom from n) (tree m (pairs h) f)
+      refuses : (h : Held s base table count) (m : Bytes) (f : Forest) → Holds s inside f → first refusal′ (refusalOf rest (tree m (pairs h) f)) ≡ refusalOf (rowsFrom from n) (tree m (pairs h) f)
       refuses k m f z =
           let q : t .refusal ≡ refusalIn (tried line (tree m (pairs k) f)) = ap (λ (t : Tried). t .refusal) (row .says k m f z) in
           ap (λ (x : ℕ). first x (refusalOf rest (tree m (pairs k) f))) (r ∙ ap (first refusal) q)
@@ -105,21 +105,21 @@ module _ (s : Bytes) (table : List ℕ) (count inside from n : ℕ) (before : Li
           ∙ ap (λ (l : List Row). first refusal (refusalOf l (tree m (pairs k) f))) (sym (next-row from n i h))
           ∙ g .refuses k m f z
 
-      fills : (h : Held s table count) (m : Bytes) (f : Forest) → Holds s inside f → Filled before cells′ (i + 1) (cellsOf (keptIn rest (place h) (tree m (pairs h) f))) (cellsOf (keptIn (rowsFrom from n) (place h) (tree m (pairs h) f)))
+      fills : (h : Held s base table count) (m : Bytes) (f : Forest) → Holds s inside f → Filled before cells′ (i + 1) (cellsOf (keptIn rest (place h) (tree m (pairs h) f))) (cellsOf (keptIn (rowsFrom from n) (place h) (tree m (pairs h) f)))
       fills k m f z =
           fill before cells i (t .there) (t .a) (t .b) (cellsOf (keptIn rest (place k) (tree m (pairs k) f))) (cellsOf (keptIn (rowsFrom from n) (place k) (tree m (pairs k) f))) cells′
           (subst (λ (l : List ℕ). Filled before cells i l (cellsOf (keptIn (rowsFrom from n) (place k) (tree m (pairs k) f))))
           (ap (λ (l : List Row). cellsOf (keptIn l (place k) (tree m (pairs k) f))) (next-row from n i h) ∙ next-cell line rest (place k) (tree m (pairs k) f) ∙ ap (λ (t : Tried). t .there ∷ t .a ∷ t .b ∷ cellsOf (keptIn rest (place k) (tree m (pairs k) f))) (sym (row .says k m f z)))
           (g .fills k m f z)) e
 
-  pub loop-ends : {cells : List ℕ} {refusal i : ℕ} (kind : ℕ) → rowsOf kind ≡ rowsFrom from n → Going s table count inside from n before cells refusal i → n ≤ i → AllRowed s table count inside kind before cells refusal
+  pub loop-ends : {cells : List ℕ} {refusal i : ℕ} (kind : ℕ) → rowsOf kind ≡ rowsFrom from n → Going s base table count inside from n before cells refusal i → n ≤ i → AllRowed s base table count inside kind before cells refusal
   unfolding refusalOf cellsOf keptIn
   loop-ends {cells} {refusal} {i} kind e g h = record { refusal = refuses; cells = fills }
     where
-      refuses : (h : Held s table count) (m : Bytes) (f : Forest) → Holds s inside f → refusal ≡ refusalOf (rowsOf kind) (tree m (pairs h) f)
+      refuses : (h : Held s base table count) (m : Bytes) (f : Forest) → Holds s inside f → refusal ≡ refusalOf (rowsOf kind) (tree m (pairs h) f)
       refuses k m f z = sym (first-zero refusal) ∙ ap (λ (l : List Row). first refusal (refusalOf l (tree m (pairs k) f))) (sym (no-row from n i h)) ∙ g .refuses k m f z ∙ ap (λ (l : List Row). refusalOf l (tree m (pairs k) f)) (sym e)
 
-      fills : (h : Held s table count) (m : Bytes) (f : Forest) → Holds s inside f → cells ≡ cellsOf (keptIn (rowsOf kind) (place h) (tree m (pairs h) f)) ++ drop (3 * length (rowsOf kind)) before
+      fills : (h : Held s base table count) (m : Bytes) (f : Forest) → Holds s inside f → cells ≡ cellsOf (keptIn (rowsOf kind) (place h) (tree m (pairs h) f)) ++ drop (3 * length (rowsOf kind)) before
       fills k m f z =
           let x = g .fills k m f z in
           let u = g .upto in

@@ -84,16 +84,25 @@ module _ {s : Bytes} {start end from to count inside : ℕ} {old new : List ℕ}
       let d = length-drop from s in
       omega arith
 
-  unfoldable pub accepted-held : Held s new count
-  accepted-held = record { at = to; attributes = tagIn child .attributes; after = parts .after; rest = drop (4 * count) old; good = good-tag good .attributes .each; stand = parts .attributes; rows = a .lines .table; counts = a .lines .counts }
+  unfoldable pub accepted-held : length old ≡ 128 → Held s to new count
+  accepted-held h = record {
+    attributes = tagIn child .attributes;
+    after = parts .after;
+    rest = drop (4 * length (tagIn child .attributes)) old;
+    good = good-tag good .attributes .each;
+    stand = parts .attributes;
+    rows = a .table h;
+    counts = a .lines .counts;
+  }
 
   pub accepted-long : length old ≡ 128 → length new ≡ 128
   accepted-long h =
       let f = good-tag good .attributes .few in
       let c = a .lines .counts in
-      let p : length new ≡ length (places to (tagIn child .attributes)) + length (drop (4 * count) old) = ap length (a .lines .table) ∙ length-append (places to (tagIn child .attributes)) (drop (4 * count) old) in
-      let q = length-places to (tagIn child .attributes) in
-      let d = length-drop (4 * count) old in
+      let n = length (tagIn child .attributes) in
+      let p : length new ≡ length (places 0 (tagIn child .attributes)) + length (drop (4 * n) old) = ap length (a .table h) ∙ length-append (places 0 (tagIn child .attributes)) (drop (4 * n) old) in
+      let q = length-places 0 (tagIn child .attributes) in
+      let d = length-drop (4 * n) old in
       omega arith
 
   pub accepted-holds : Holds s inside (childrenOf (readElement child))
@@ -128,12 +137,12 @@ module _ (s : Bytes) (start end : ℕ) (l : Layout) (w : Laid (take (end - start
   abbrev here : List Attribute
   here = tagIn (inner l) .attributes
 
-  laid-out : Accepted s start end at to (length here) (insideFrom to (inner l)) [] (places to here ++ drop (4 * length here) [])
-  laid-out = record { layout = l; laid = w; lines = record { starts = refl; ends = refl; counts = refl; table = refl; behind = refl } }
+  laid-out : Accepted s start end at to (length here) (insideFrom to (inner l)) [] (places 0 here ++ drop (4 * length here) [])
+  laid-out = record { layout = l; laid = w; lines = record { starts = refl; ends = refl; counts = refl; behind = refl }; table = λ _. refl }
 
   pub there-reads : (n : Bytes) (p : Span) → placesIn start l n ≡ Present p → ReadsAt s n (attributesOf (childOf (readLayout l))) p
-  unfolding accepted-held laid-out
-  there-reads n p e = subst (λ (a : List Pair). ReadsAt s n a p) (sym (attributes-read l)) (reads-at s to here (accepted-held laid-out .after) (accepted-held laid-out .good) (accepted-held laid-out .stand) n p e)
+  unfolding laid-out
+  there-reads n p e = subst (λ (a : List Pair). ReadsAt s n a p) (sym (attributes-read l)) (reads-at s to here (parts laid-out .after) (good-tag (good laid-out) .attributes .each) (parts laid-out .attributes) n p e)
 
   pub absent-not : (n : Bytes) → placesIn start l n ≡ Absent → (v : Bytes) → Has n v (attributesOf (childOf (readLayout l))) → ⊥
   absent-not n e v h = not-there to here n e v (subst (λ (a : List Pair). Has n v a) (attributes-read l) h)

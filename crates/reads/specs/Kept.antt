@@ -69,13 +69,13 @@ pub record RowJudges (k lo hi : ℕ) (raw : Bytes) (start : ℕ) (r : Tried) : T
   pub says : (l : List Item) → Loose raw l → r ≡ triedAs (attributeForm k lo hi) (Present (record { start = start; len = length raw })) (judged (attributeForm k lo hi) (readValue l))
 
 -- a row tried on the element that the table describes
-pub record Rowed (s : Bytes) (table : List ℕ) (count inside : ℕ) (c : Coded) (r : Tried) : Type 0 where
-  pub says : (h : Held s table count) (m : Bytes) (f : Forest) → Holds s inside f → r ≡ triedBy (rowOf c) (place h) (tree m (pairs h) f)
+pub record Rowed (s : Bytes) (base : ℕ) (table : List ℕ) (count inside : ℕ) (c : Coded) (r : Tried) : Type 0 where
+  pub says : (h : Held s base table count) (m : Bytes) (f : Forest) → Holds s inside f → r ≡ triedBy (rowOf c) (place h) (tree m (pairs h) f)
 
 -- the rows of a kind: the first refusal, and their cells in front of what was there
-pub record AllRowed (s : Bytes) (table : List ℕ) (count inside k : ℕ) (before after : List ℕ) (r : ℕ) : Type 0 where
-  pub refusal : (h : Held s table count) (m : Bytes) (f : Forest) → Holds s inside f → r ≡ refusalOf (rowsOf k) (tree m (pairs h) f)
-  pub cells : (h : Held s table count) (m : Bytes) (f : Forest) → Holds s inside f → after ≡ cellsOf (keptIn (rowsOf k) (place h) (tree m (pairs h) f)) ++ drop (3 * length (rowsOf k)) before
+pub record AllRowed (s : Bytes) (base : ℕ) (table : List ℕ) (count inside k : ℕ) (before after : List ℕ) (r : ℕ) : Type 0 where
+  pub refusal : (h : Held s base table count) (m : Bytes) (f : Forest) → Holds s inside f → r ≡ refusalOf (rowsOf k) (tree m (pairs h) f)
+  pub cells : (h : Held s base table count) (m : Bytes) (f : Forest) → Holds s inside f → after ≡ cellsOf (keptIn (rowsOf k) (place h) (tree m (pairs h) f)) ++ drop (3 * length (rowsOf k)) before
 
 -- the features that stand in an element's content, and the first child of a name
 pub record NotesIn (s : Bytes) (inside : ℕ) (r : Tried) : Type 0 where

@@ -4,8 +4,11 @@ use mathlib.Core.List.{List, _++_}
 use Prim.Native.Nat.{ℕ, _-_, _*_}
 use lib.ListN.{length, take, drop}
 use Rattle.grammar.specs.Bytes.{Bytes}
+use Rattle.grammar.specs.Limits.{ATTRIBUTES}
 use Rattle.grammar.specs.Message.{Layout, Laid, readLayout}
 use Rattle.grammar.specs.Answer.{Answers, endsAt, moreFrom, malformedAt, tooLongFrom}
+use Rattle.reader.specs.Answer.{Outlined}
+use Rattle.reader.specs.declared.answer.Outline.{Outline}
 use Rattle.table.specs.Table.{rowsOf}
 use Rattle.table.specs.Says.{childOf, saidOf}
 use Rattle.message.specs.Checked.{placesIn, Checks}
@@ -15,6 +18,12 @@ use Rattle.message.specs.declared.checking.Checked.{Checked}
 use Rattle.reads.specs.Kept.{keptIn}
 use Rattle.reads.specs.declared.checking.Found.{Found}
 use Rattle.reads.specs.declared.whole.Outcome.{Outcome}
+
+-- an outline of s, and the table that it was made with
+pub record Sketched (s : Bytes) (table : List ℕ) (o : Outline) : Type 0 where
+  pub before : List ℕ
+  pub whole : length before ≡ 4 * ATTRIBUTES
+  pub outlined : Outlined s before table o
 
 abbrev pub outcomeOf : ℕ → ℕ → ℕ → ℕ → ℕ → Outcome
 outcomeOf n k start end place = record { refusal = n; kind = k; start = start; end = end; place = place }

@@ -3,14 +3,16 @@ ghost use mathlib.Core.Path.{_≡_};
 ghost use lib.ListN.{replicate};
 ghost use Rattle.message.specs.Cells.{NUMBERS as MANY};
 ghost use Rattle.message.specs.Checked.{Checks};
-ghost use Rattle.reads.specs.Whole.{ChecksInto};
+ghost use Rattle.reads.specs.Whole.{Sketched, ChecksInto};
 use crate::ids::take_id;
 use crate::whole::Outcome;
-use crate::whole::check_cells;
+use crate::whole::tell;
 use cells::clear;
 use message::Checked;
 use message::Message;
 use message::cells::NUMBERS;
+use reader::answer::Outline;
+use tags::attributes::PLACES;
 
 /// What stands behind the glue in front of an input, as message::Checked says; what a message says stands in cells, but for its BoardId.
 pub struct Found {
@@ -35,18 +37,29 @@ fn told(o: Outcome, id: [u8; 36]) -> Found
     }
 }
 
-/// Reads the message behind the glue in front of s, and tries its attributes. What it says stands in the cells then; they stay zeros if it is refused.
-pub fn check_into(s: &[u8], cells: &mut [u64]) -> Found
-    requires { ⌜ now cells ≡ replicate MANY 0 ⌝ }
+/// Tries the attributes of the message that an outline found in s, with the places that it put into the table. What the message says stands in the cells
+/// then; they stay zeros if it is refused. It stands apart from the outline, so that the stack of both is not needed at once.
+pub fn check_outlined(s: &[u8], sketch: Outline, table: &[u16], cells: &mut [u64]) -> Found
+    requires { ⌜ (now cells ≡ replicate MANY 0) × Sketched (now s) (now table) sketch ⌝ }
     ensures { λ r. ⌜ ChecksInto (now (s .entry)) (now (cells .exit)) r ⌝ }
 {
-    let o = check_cells(s, &mut *cells);
+    let o = tell(s, sketch, table, &mut *cells);
     if o.refusal == 0 {
         let id = take_id(s, o.kind, &mut *cells);
         return told(o, id);
     }
     clear(&mut *cells);
     told(o, [0u8; 36])
+}
+
+/// Reads the message behind the glue in front of s, and tries its attributes. What it says stands in the cells then; they stay zeros if it is refused.
+pub fn check_into(s: &[u8], cells: &mut [u64]) -> Found
+    requires { ⌜ now cells ≡ replicate MANY 0 ⌝ }
+    ensures { λ r. ⌜ ChecksInto (now (s .entry)) (now (cells .exit)) r ⌝ }
+{
+    let mut table = [0u16; PLACES];
+    let o = reader::outline(s, &mut table);
+    check_outlined(s, o, &table, cells)
 }
 
 /// Reads the message behind the glue in front of s, and tries its attributes.

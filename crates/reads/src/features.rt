@@ -11,7 +11,6 @@ use crate::tried::missing;
 use crate::tried::number;
 use rows::data::name_at;
 use rows::same::same;
-use tags::attributes::PLACES;
 
 /// The first child of a name: whether there is one, and the place behind its start tag, 0 if it is an empty tag.
 pub struct Named {
@@ -36,10 +35,9 @@ pub fn first_child(s: &[u8], inside: usize, name: &[u8]) -> Named
     if inside == 0 {
         return unnamed();
     }
-    let mut table = [0usize; PLACES];
     let mut at = inside;
     loop {
-        let c = reader::child(s, at, &mut table);
+        let c = reader::child(s, at);
         if c.found {
             let from = c.from;
             let to = c.to;

@@ -25,7 +25,8 @@ pub fn put(cells: &mut [u64], at: usize, there: u64, a: u64, b: u64)
 /// Tries the rows of the kind in order, puts a cell down for each, and returns the first refusal.
 pub fn check_rows(
     s: &[u8],
-    table: &[usize],
+    base: usize,
+    table: &[u16],
     count: usize,
     inside: usize,
     kind: u8,
@@ -33,8 +34,8 @@ pub fn check_rows(
     names: &[u8],
     cells: &mut [u64],
 ) -> u8
-    requires { ⌜ Held (now s) (now table) count × (now numbers ≡ coding) × (now names ≡ letters) × (NUMBERS ≤ length (now cells)) ⌝ }
-    ensures { λ r. ⌜ AllRowed (now (s .entry)) (now (table .entry)) count inside kind (now (cells .entry)) (now (cells .exit)) r ⌝ }
+    requires { ⌜ Held (now s) base (now table) count × (now numbers ≡ coding) × (now names ≡ letters) × (NUMBERS ≤ length (now cells)) ⌝ }
+    ensures { λ r. ⌜ AllRowed (now (s .entry)) base (now (table .entry)) count inside kind (now (cells .entry)) (now (cells .exit)) r ⌝ }
 {
     let range = rows_of(kind);
     let from = range.from;
@@ -43,7 +44,7 @@ pub fn check_rows(
     let mut i = 0;
     while i < n {
         let row = row_at(numbers, from + i);
-        let t = try_row(s, table, count, inside, names, row);
+        let t = try_row(s, base, table, count, inside, names, row);
         put(&mut *cells, 3 * i, t.there, t.a, t.b);
         refusal = first(refusal, t.refusal);
         i += 1;

@@ -14,5 +14,6 @@ mod whole;
 pub use checking::Found;
 pub use checking::check;
 pub use checking::check_into;
+pub use checking::check_outlined;
 pub use whole::Outcome;
 pub use whole::check_cells;

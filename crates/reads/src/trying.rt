@@ -15,21 +15,22 @@ use value::Words;
 /// A row tried: its attribute, or its child.
 pub fn try_row(
     s: &[u8],
-    table: &[usize],
+    base: usize,
+    table: &[u16],
     count: usize,
     inside: usize,
     names: &[u8],
     row: Row,
 ) -> Tried
-    requires { ⌜ Held (now s) (now table) count × (now names ≡ letters) × Sound row ⌝ }
-    ensures { λ r. ⌜ Rowed (now (s .entry)) (now (table .entry)) count inside row r ⌝ }
+    requires { ⌜ Held (now s) base (now table) count × (now names ≡ letters) × Sound row ⌝ }
+    ensures { λ r. ⌜ Rowed (now (s .entry)) base (now (table .entry)) count inside row r ⌝ }
 {
     let name = name_at(names, row.line as usize, row.len as usize);
     let form = row.form;
     if form == 0 {
         return try_child(s, inside, names, name, row.need);
     }
-    let w = find(s, table, count, name);
+    let w = find(s, base, table, count, name);
     let Words::Present(p) = w else {
         return missing(row.need);
     };

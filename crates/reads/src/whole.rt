@@ -3,9 +3,10 @@ ghost use mathlib.Core.Path.{_≡_};
 ghost use Prim.Native.Nat.{_≤_};
 ghost use lib.ListN.{length};
 ghost use Rattle.message.specs.Cells.{NUMBERS as MOST};
-ghost use Rattle.reads.specs.Whole.{outcomeOf, CellsChecked};
+ghost use Rattle.reads.specs.Whole.{outcomeOf, Sketched, CellsChecked};
 use crate::kind_rows::check_rows;
 use reader::answer::Answer;
+use reader::answer::Outline;
 use rows::data::NAMES;
 use rows::data::NUMBERS;
 use rows::kind_named;
@@ -32,13 +33,11 @@ fn made(refusal: u8, kind: u8, start: usize, end: usize, place: usize) -> Outcom
     }
 }
 
-/// Reads the message behind the glue in front of s, and puts down a cell for each row of its kind.
-pub fn check_cells(s: &[u8], cells: &mut [u64]) -> Outcome
-    requires { ⌜ MOST ≤ length (now cells) ⌝ }
+/// Puts down a cell for each row of the kind of the message that an outline found in s, with the places that it put into the table.
+pub fn tell(s: &[u8], o: Outline, table: &[u16], cells: &mut [u64]) -> Outcome
+    requires { ⌜ (MOST ≤ length (now cells)) × Sketched (now s) (now table) o ⌝ }
     ensures { λ r. ⌜ CellsChecked (now (s .entry)) (now (cells .entry)) (now (cells .exit)) r ⌝ }
 {
-    let mut table = [0usize; PLACES];
-    let o = reader::outline(s, &mut table);
     let a = o.answer;
     match a {
         Answer::Ends { start, end } => {
@@ -47,11 +46,31 @@ pub fn check_cells(s: &[u8], cells: &mut [u64]) -> Outcome
             let kind = kind_named(&s[from..to]);
             let numbers = NUMBERS;
             let names = NAMES;
-            let refusal = check_rows(s, &table, o.count, o.inside, kind, &numbers, &names, cells);
+            let refusal = check_rows(
+                s,
+                to,
+                table,
+                o.count,
+                o.inside,
+                kind,
+                &numbers,
+                &names,
+                cells,
+            );
             made(refusal, kind, start, end, 0)
         }
         Answer::More { start } => made(1, 0, start, 0, 0),
         Answer::Malformed { start, place } => made(2, 0, start, 0, place),
         Answer::TooLong { start } => made(3, 0, start, 0, 0),
     }
+}
+
+/// Reads the message behind the glue in front of s, and puts down a cell for each row of its kind.
+pub fn check_cells(s: &[u8], cells: &mut [u64]) -> Outcome
+    requires { ⌜ MOST ≤ length (now cells) ⌝ }
+    ensures { λ r. ⌜ CellsChecked (now (s .entry)) (now (cells .entry)) (now (cells .exit)) r ⌝ }
+{
+    let mut table = [0u16; PLACES];
+    let o = reader::outline(s, &mut table);
+    tell(s, o, &table, cells)
 }

@@ -12,10 +12,10 @@ use Rattle.decides.proofs.rule.Statement.{statement}
 use Rattle.decides.proofs.rule.Tie as tie
 
 abbrev Inv-loop : tie.InvT-loop
-Inv-loop s table count inside kind numbers names from n i₀ i = Tried-so-far s table count inside from n i
+Inv-loop s base table count inside kind numbers names from n i₀ i = Tried-so-far s base table count inside from n i
 
 abbrev μ-loop : tie.MeasureT-loop
-μ-loop s table count inside kind numbers names from n i₀ i = n - i
+μ-loop s base table count inside kind numbers names from n i₀ i = n - i
 
 rows-of-requires : tie.Need-rows-of-requires Inv-loop μ-loop
 rows-of-requires c κs = tt

@@ -1,54 +1,34 @@
--- By whether the message is refused.
-use native.Mathlib.Omega.{arith}
-use lib.ListN.{length}
-use Rattle.reads.proofs.CheckLaws.{into-accepted, into-refused, all-cells, cleared-so}
+-- The outline, and then what it found.
+use mathlib.Core.Path.{refl}
 use borrow.Author.Needs.{needs}
 use Rattle.reads.proofs.checking.check_into.Statement.{statement}
 use Rattle.reads.proofs.checking.check_into.Tie as tie
-use Rattle.reads.proofs.checking.check_into.Reads as reads
-use Rattle.reads.proofs.checking.check_into.Lts as lts
-use Rattle.reads.proofs.checking.told.Reads as told-reads
-use Rattle.reads.proofs.ids.take_id.Reads as take-id-reads
-use Rattle.reads.proofs.whole.check_cells.Reads as check-cells-reads
-use Rattle.cells.proofs.clear.Reads as clear-reads
 
-check-cells-requires : tie.Need-check-cells-requires
-check-cells-requires c κs = let n = all-cells (c .before .before .before .pre) in omega arith
+slice-aggregate-outline : tie.Need-slice-aggregate-outline
+slice-aggregate-outline c = search needs
 
-take-id-requires : tie.Need-take-id-requires
-take-id-requires c κs = let n = all-cells (c .before .before .before .before .before .before .before .before .before .pre) in omega arith
+outline-requires : tie.Need-outline-requires
+outline-requires c κs = search needs
 
-told-requires : tie.Need-told-requires
-told-requires c κs = search needs
+slice-aggregate-check-outlined : tie.Need-slice-aggregate-check-outlined
+slice-aggregate-check-outlined c = search needs
+
+check-outlined-requires : tie.Need-check-outlined-requires
+check-outlined-requires c κs = (c .before .before .before .before .before .before .before .pre, record { before = _; whole = refl; outlined = c .before .before .before .outline .ensures })
 
 same-length : tie.Need-same-length
 same-length c = search needs
 
 returns : tie.Need-returns
-returns c = into-accepted (c .before .before .before .before .before .before .before .before .before .before .before .before .before .pre) (c .before .before .before .before .before .before .before .before .before .check-cells .ensures) (c .before .before .before .before .before .if1 .taken) (c .before .before .before .take-id .ensures) (c .told .ensures) (let n = all-cells (c .before .before .before .before .before .before .before .before .before .before .before .before .before .pre) in omega arith)
-
-clear-requires : tie.Need-clear-requires
-clear-requires c κs = search needs
-
-told-requires-2 : tie.Need-told-requires-2
-told-requires-2 c κs = search needs
-
-same-length-2 : tie.Need-same-length-2
-same-length-2 c = search needs
-
-returns-2 : tie.Need-returns-2
-returns-2 c = into-refused (c .before .before .before .before .before .before .before .before .before .check-cells .ensures) (c .before .before .before .before .before .if1 .left) (cleared-so (length (c .before .before .before .before .before .before .before .before .before .check-cells .last .1 .0)) (c .before .before .before .clear .ensures) (let n = all-cells (c .before .before .before .before .before .before .before .before .before .before .before .before .before .pre) in omega arith)) (c .told2 .ensures)
+returns c = c .before .before .check-outlined .ensures
 
 pub check-into-spec : {M : Type 1} → statement M
 check-into-spec =
     tie.close
     (tie.spec
-    check-cells-requires
-    take-id-requires
-    told-requires
+    slice-aggregate-outline
+    outline-requires
+    slice-aggregate-check-outlined
+    check-outlined-requires
     same-length
-    returns
-    clear-requires
-    told-requires-2
-    same-length-2
-    returns-2)
+    returns)

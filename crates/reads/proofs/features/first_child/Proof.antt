@@ -8,10 +8,10 @@ use Rattle.reads.proofs.features.first_child.Statement.{statement}
 use Rattle.reads.proofs.features.first_child.Tie as tie
 
 abbrev Inv-loop : tie.InvT-loop
-Inv-loop s inside name table₀ at₀ table at = Searched s inside name at
+Inv-loop s inside name at₀ at = Searched s inside name at
 
 abbrev μ-loop : tie.MeasureT-loop
-μ-loop s inside name table₀ at₀ table at = length s - at
+μ-loop s inside name at₀ at = length s - at
 
 unnamed-requires : tie.Need-unnamed-requires Inv-loop μ-loop
 unnamed-requires c κs = tt
@@ -38,19 +38,19 @@ same-requires : tie.Need-same-requires Inv-loop μ-loop
 same-requires c κs = tt
 
 returns-2 : tie.Need-returns-2 Inv-loop μ-loop
-returns-2 c = search-finds (c .before .before .before .before .before .before .loop .inv) (c .before .before .before .before .child .ensures) (c .before .before .before .if2 .taken) (sym (c .if3 .taken) ∙ c .before .same .ensures)
+returns-2 c = search-finds (c .before .before .before .before .before .loop .inv) (c .before .before .before .before .child .ensures) (c .before .before .before .if2 .taken) (sym (c .if3 .taken) ∙ c .before .same .ensures)
 
 loop-less : tie.Need-loop-less Inv-loop μ-loop
 loop-less c = let a = found-ahead (c .before .before .before .before .child .ensures) (c .before .before .before .if2 .taken) in let o = a .on in let u = a .upto in omega arith
 
 loop-again : tie.Need-loop-again Inv-loop μ-loop
-loop-again c = search-goes-on (c .before .before .before .before .before .before .loop .inv) (c .before .before .before .before .child .ensures) (c .before .before .before .if2 .taken) (sym (c .if3 .left) ∙ c .before .same .ensures)
+loop-again c = search-goes-on (c .before .before .before .before .before .loop .inv) (c .before .before .before .before .child .ensures) (c .before .before .before .if2 .taken) (sym (c .if3 .left) ∙ c .before .same .ensures)
 
 unnamed-requires-2 : tie.Need-unnamed-requires-2 Inv-loop μ-loop
 unnamed-requires-2 c κs = tt
 
 returns-3 : tie.Need-returns-3 Inv-loop μ-loop
-returns-3 c = search-ends (c .before .before .before .before .loop .inv) (c .before .before .child .ensures) (c .before .if2 .left) (c .unnamed2 .ensures)
+returns-3 c = search-ends (c .before .before .before .loop .inv) (c .before .before .child .ensures) (c .before .if2 .left) (c .unnamed2 .ensures)
 
 pub first-child-spec : {M : Type 1} → statement M
 first-child-spec =

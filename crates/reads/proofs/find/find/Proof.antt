@@ -9,10 +9,10 @@ use Rattle.reads.proofs.find.find.Statement.{statement}
 use Rattle.reads.proofs.find.find.Tie as tie
 
 abbrev Inv-loop : tie.InvT-loop
-Inv-loop s table count name i₀ i = (h : Held s table count) → Left s table count i name (place h name)
+Inv-loop s base table count name i₀ i = (h : Held s base table count) → Left s base table count i name (place h name)
 
 abbrev μ-loop : tie.MeasureT-loop
-μ-loop s table count name i₀ i = count - i
+μ-loop s base table count name i₀ i = count - i
 
 loop-holds : tie.Need-loop-holds Inv-loop μ-loop
 loop-holds c = λ h. left-all h _
@@ -26,6 +26,12 @@ mul-from-2 c = let z = row-at (c .before .loop .inv (c .before .before .before .
 shared-slice-read-from : tie.Need-shared-slice-read-from Inv-loop μ-loop
 shared-slice-read-from c = let z = row-at (c .before .before .loop .inv (c .before .before .before .before .before .before .pre)) (c .before .loop-test .taken) .long in omega arith
 
+cast-from : tie.Need-cast-from Inv-loop μ-loop
+cast-from c = record { fits = let z = row-at (c .before .before .loop .inv (c .before .before .before .before .before .before .pre)) (c .before .loop-test .taken) in omega (arith, z .name-order, z .name-in, z .value-order, z .value-in) }
+
+add-from : tie.Need-add-from Inv-loop μ-loop
+add-from c = let z = row-at (c .before .before .loop .inv (c .before .before .before .before .before .before .pre)) (c .before .loop-test .taken) in omega (arith, z .name-order, z .name-in, z .value-order, z .value-in)
+
 mul-to : tie.Need-mul-to Inv-loop μ-loop
 mul-to c = let z = row-at (c .before .before .loop .inv (c .before .before .before .before .before .before .pre)) (c .before .loop-test .taken) .long in omega arith
 
@@ -37,6 +43,12 @@ mul-to-2 c = let z = row-at (c .before .before .loop .inv (c .before .before .be
 
 shared-slice-read-to : tie.Need-shared-slice-read-to Inv-loop μ-loop
 shared-slice-read-to c = let z = row-at (c .before .before .before .loop .inv (c .before .before .before .before .before .before .before .pre)) (c .before .before .loop-test .taken) .long in omega arith
+
+cast-to : tie.Need-cast-to Inv-loop μ-loop
+cast-to c = record { fits = let z = row-at (c .before .before .before .loop .inv (c .before .before .before .before .before .before .before .pre)) (c .before .before .loop-test .taken) in omega (arith, z .name-order, z .name-in, z .value-order, z .value-in) }
+
+add-to-2 : tie.Need-add-to-2 Inv-loop μ-loop
+add-to-2 c = let z = row-at (c .before .before .before .loop .inv (c .before .before .before .before .before .before .before .pre)) (c .before .before .loop-test .taken) in omega (arith, z .name-order, z .name-in, z .value-order, z .value-in)
 
 sub-same : tie.Need-sub-same Inv-loop μ-loop
 sub-same c = row-at (c .before .before .before .loop .inv (c .before .before .before .before .before .before .before .pre)) (c .before .before .loop-test .taken) .name-order
@@ -62,6 +74,12 @@ mul-start-2 c = let z = row-at (c .before .before .before .before .before .befor
 shared-slice-read-start : tie.Need-shared-slice-read-start Inv-loop μ-loop
 shared-slice-read-start c = let z = row-at (c .before .before .before .before .before .before .before .loop .inv (c .before .before .before .before .before .before .before .before .before .before .before .pre)) (c .before .before .before .before .before .before .loop-test .taken) .long in omega arith
 
+cast-start : tie.Need-cast-start Inv-loop μ-loop
+cast-start c = record { fits = let z = row-at (c .before .before .before .before .before .before .before .loop .inv (c .before .before .before .before .before .before .before .before .before .before .before .pre)) (c .before .before .before .before .before .before .loop-test .taken) in omega (arith, z .name-order, z .name-in, z .value-order, z .value-in) }
+
+add-start-2 : tie.Need-add-start-2 Inv-loop μ-loop
+add-start-2 c = let z = row-at (c .before .before .before .before .before .before .before .loop .inv (c .before .before .before .before .before .before .before .before .before .before .before .pre)) (c .before .before .before .before .before .before .loop-test .taken) in omega (arith, z .name-order, z .name-in, z .value-order, z .value-in)
+
 mul-end : tie.Need-mul-end Inv-loop μ-loop
 mul-end c = let z = row-at (c .before .before .before .before .before .before .before .loop .inv (c .before .before .before .before .before .before .before .before .before .before .before .pre)) (c .before .before .before .before .before .before .loop-test .taken) .long in omega arith
 
@@ -74,8 +92,14 @@ mul-end-2 c = let z = row-at (c .before .before .before .before .before .before 
 shared-slice-read-end : tie.Need-shared-slice-read-end Inv-loop μ-loop
 shared-slice-read-end c = let z = row-at (c .before .before .before .before .before .before .before .before .loop .inv (c .before .before .before .before .before .before .before .before .before .before .before .before .pre)) (c .before .before .before .before .before .before .before .loop-test .taken) .long in omega arith
 
-sub-t21 : tie.Need-sub-t21 Inv-loop μ-loop
-sub-t21 c = row-at (c .before .before .before .before .before .before .before .before .loop .inv (c .before .before .before .before .before .before .before .before .before .before .before .before .pre)) (c .before .before .before .before .before .before .before .loop-test .taken) .value-order
+cast-end : tie.Need-cast-end Inv-loop μ-loop
+cast-end c = record { fits = let z = row-at (c .before .before .before .before .before .before .before .before .loop .inv (c .before .before .before .before .before .before .before .before .before .before .before .before .pre)) (c .before .before .before .before .before .before .before .loop-test .taken) in omega (arith, z .name-order, z .name-in, z .value-order, z .value-in) }
+
+add-end-2 : tie.Need-add-end-2 Inv-loop μ-loop
+add-end-2 c = let z = row-at (c .before .before .before .before .before .before .before .before .loop .inv (c .before .before .before .before .before .before .before .before .before .before .before .before .pre)) (c .before .before .before .before .before .before .before .loop-test .taken) in omega (arith, z .name-order, z .name-in, z .value-order, z .value-in)
+
+sub-t23 : tie.Need-sub-t23 Inv-loop μ-loop
+sub-t23 c = row-at (c .before .before .before .before .before .before .before .before .loop .inv (c .before .before .before .before .before .before .before .before .before .before .before .before .pre)) (c .before .before .before .before .before .before .before .loop-test .taken) .value-order
 
 returns : tie.Need-returns Inv-loop μ-loop
 returns c = record { says = λ h. sym (row-at (c .before .before .before .before .before .before .before .before .loop .inv h) (c .before .before .before .before .before .before .before .loop-test .taken) .hit (sym (c .before .before .before .same .ensures) ∙ c .before .before .if1 .taken)) }
@@ -102,10 +126,14 @@ find-spec =
     mul-from
     mul-from-2
     shared-slice-read-from
+    cast-from
+    add-from
     mul-to
     add-to
     mul-to-2
     shared-slice-read-to
+    cast-to
+    add-to-2
     sub-same
     part-same-start
     part-same-end
@@ -114,11 +142,15 @@ find-spec =
     add-start
     mul-start-2
     shared-slice-read-start
+    cast-start
+    add-start-2
     mul-end
     add-end
     mul-end-2
     shared-slice-read-end
-    sub-t21
+    cast-end
+    add-end-2
+    sub-t23
     returns
     add-i
     loop-less

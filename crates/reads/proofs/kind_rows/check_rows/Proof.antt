@@ -12,16 +12,16 @@ use Rattle.reads.proofs.kind_rows.check_rows.Statement.{statement}
 use Rattle.reads.proofs.kind_rows.check_rows.Tie as tie
 
 abbrev Inv-loop : tie.InvT-loop
-Inv-loop s table count inside kind numbers names cells₀ from n refusal₀ i₀ cells refusal i = Going s table count inside from n cells₀ cells refusal i
+Inv-loop s base table count inside kind numbers names cells₀ from n refusal₀ i₀ cells refusal i = Going s base table count inside from n cells₀ cells refusal i
 
 abbrev μ-loop : tie.MeasureT-loop
-μ-loop s table count inside kind numbers names cells₀ from n refusal₀ i₀ cells refusal i = n - i
+μ-loop s base table count inside kind numbers names cells₀ from n refusal₀ i₀ cells refusal i = n - i
 
 rows-of-requires : tie.Need-rows-of-requires Inv-loop μ-loop
 rows-of-requires c κs = tt
 
 loop-holds : tie.Need-loop-holds Inv-loop μ-loop
-loop-holds c = loop-starts (c .before .before .before .before .before .before .args .s .now) (c .before .before .before .before .before .before .args .table .now) (c .before .before .before .before .before .before .args .count) (c .before .before .before .before .before .before .args .inside) (c .rows-of .result .from) (c .rows-of .result .count) (c .before .before .before .before .before .before .args .cells .now)
+loop-holds c = loop-starts (c .before .before .before .before .before .before .args .s .now) (c .before .before .before .before .before .before .args .base) (c .before .before .before .before .before .before .args .table .now) (c .before .before .before .before .before .before .args .count) (c .before .before .before .before .before .before .args .inside) (c .rows-of .result .from) (c .rows-of .result .count) (c .before .before .before .before .before .before .args .cells .now)
 
 add-row-at : tie.Need-add-row-at Inv-loop μ-loop
 add-row-at c = let w = c .before .before .rows-of .ensures .within in let u = c .loop-test .taken in omega (arith, few-rows)
@@ -49,13 +49,13 @@ loop-less c = let u = c .before .before .before .before .before .before .before 
 
 loop-again : tie.Need-loop-again Inv-loop μ-loop
 loop-again c = let v = room (c .before .before .before .before .before .before .before .before .before .rows-of .ensures) in let u = c .before .before .before .before .before .before .before .loop-test .taken in let l = c .before .before .before .before .before .before .before .before .loop .inv .long in let p = c .before .before .before .before .before .before .before .before .before .before .before .before .before .before .before .pre .3 in
-    loop-goes-on (c .before .before .before .before .before .before .before .before .before .before .before .before .before .before .before .args .s .now) (c .before .before .before .before .before .before .before .before .before .before .before .before .before .before .before .args .table .now) (c .before .before .before .before .before .before .before .before .before .before .before .before .before .before .before .args .count) (c .before .before .before .before .before .before .before .before .before .before .before .before .before .before .before .args .inside) (c .before .before .before .before .before .before .before .before .before .rows-of .result .from) (c .before .before .before .before .before .before .before .before .before .rows-of .result .count) (c .before .before .before .before .before .before .before .before .before .before .before .before .before .before .before .args .cells .now) (c .before .before .before .before .before .before .before .before .loop .inv) u (subst (λ (x : Coded). Rowed (c .before .before .before .before .before .before .before .before .before .before .before .before .before .before .before .args .s .now) (c .before .before .before .before .before .before .before .before .before .before .before .before .before .before .before .args .table .now) (c .before .before .before .before .before .before .before .before .before .before .before .before .before .before .before .args .count) (c .before .before .before .before .before .before .before .before .before .before .before .before .before .before .before .args .inside) x (c .before .before .before .before .before .try-row .result)) (c .before .before .before .before .before .before .row-at .ensures) (c .before .before .before .before .before .try-row .ensures)) (c .before .before .before .put .ensures) (omega arith) (c .first .ensures)
+    loop-goes-on (c .before .before .before .before .before .before .before .before .before .before .before .before .before .before .before .args .s .now) (c .before .before .before .before .before .before .before .before .before .before .before .before .before .before .before .args .base) (c .before .before .before .before .before .before .before .before .before .before .before .before .before .before .before .args .table .now) (c .before .before .before .before .before .before .before .before .before .before .before .before .before .before .before .args .count) (c .before .before .before .before .before .before .before .before .before .before .before .before .before .before .before .args .inside) (c .before .before .before .before .before .before .before .before .before .rows-of .result .from) (c .before .before .before .before .before .before .before .before .before .rows-of .result .count) (c .before .before .before .before .before .before .before .before .before .before .before .before .before .before .before .args .cells .now) (c .before .before .before .before .before .before .before .before .loop .inv) u (subst (λ (x : Coded). Rowed (c .before .before .before .before .before .before .before .before .before .before .before .before .before .before .before .args .s .now) (c .before .before .before .before .before .before .before .before .before .before .before .before .before .before .before .args .base) (c .before .before .before .before .before .before .before .before .before .before .before .before .before .before .before .args .table .now) (c .before .before .before .before .before .before .before .before .before .before .before .before .before .before .before .args .count) (c .before .before .before .before .before .before .before .before .before .before .before .before .before .before .before .args .inside) x (c .before .before .before .before .before .try-row .result)) (c .before .before .before .before .before .before .row-at .ensures) (c .before .before .before .before .before .try-row .ensures)) (c .before .before .before .put .ensures) (omega arith) (c .first .ensures)
 
 same-length : tie.Need-same-length Inv-loop μ-loop
 same-length c = c .before .loop .inv .long
 
 returns : tie.Need-returns Inv-loop μ-loop
-returns c = loop-ends (c .before .before .before .before .before .before .before .before .args .s .now) (c .before .before .before .before .before .before .before .before .args .table .now) (c .before .before .before .before .before .before .before .before .args .count) (c .before .before .before .before .before .before .before .before .args .inside) (c .before .before .rows-of .result .from) (c .before .before .rows-of .result .count) (c .before .before .before .before .before .before .before .before .args .cells .now) (c .before .before .before .before .before .before .before .before .args .kind) (c .before .before .rows-of .ensures .all) (c .before .loop .inv) (c .loop-test .left)
+returns c = loop-ends (c .before .before .before .before .before .before .before .before .args .s .now) (c .before .before .before .before .before .before .before .before .args .base) (c .before .before .before .before .before .before .before .before .args .table .now) (c .before .before .before .before .before .before .before .before .args .count) (c .before .before .before .before .before .before .before .before .args .inside) (c .before .before .rows-of .result .from) (c .before .before .rows-of .result .count) (c .before .before .before .before .before .before .before .before .args .cells .now) (c .before .before .before .before .before .before .before .before .args .kind) (c .before .before .rows-of .ensures .all) (c .before .loop .inv) (c .loop-test .left)
 
 pub check-rows-spec : {M : Type 1} → statement M
 check-rows-spec =

@@ -1,104 +1,34 @@
--- Each answer by the outline.
-use mathlib.Core.Path.{refl, sym}
-use native.Mathlib.Omega.{arith}
-use Rattle.table.specs.Table.{table}
-use Rattle.rows.specs.Coding.{numbers, names}
-use Rattle.reads.proofs.OutlineLaws.{accepted, accepted-order, accepted-in, accepted-held, accepted-long}
-use Rattle.reads.proofs.WholeLaws.{cells-end, cells-more, cells-malformed, cells-too-long}
+-- The outline, and then what it found.
+use mathlib.Core.Path.{refl}
 use borrow.Author.Needs.{needs}
 use Rattle.reads.proofs.whole.check_cells.Statement.{statement}
 use Rattle.reads.proofs.whole.check_cells.Tie as tie
 
+slice-aggregate-outline : tie.Need-slice-aggregate-outline
+slice-aggregate-outline c = search needs
+
 outline-requires : tie.Need-outline-requires
 outline-requires c κs = search needs
 
-enum-known-a : tie.Need-enum-known-a
-enum-known-a c = search needs
+slice-aggregate-tell : tie.Need-slice-aggregate-tell
+slice-aggregate-tell c = search needs
 
-sub-kind-named : tie.Need-sub-kind-named
-sub-kind-named c = accepted-order (accepted (c .before .before .before .outline .ensures) (c .before .a .given .1))
-
-part-kind-named-start : tie.Need-part-kind-named-start
-part-kind-named-start c = let o = accepted-order (accepted (c .before .before .before .outline .ensures) (c .before .a .given .1)) in let w = accepted-in (accepted (c .before .before .before .outline .ensures) (c .before .a .given .1)) in omega arith
-
-part-kind-named-end : tie.Need-part-kind-named-end
-part-kind-named-end c = let o = accepted-order (accepted (c .before .before .before .outline .ensures) (c .before .a .given .1)) in let w = accepted-in (accepted (c .before .before .before .outline .ensures) (c .before .a .given .1)) in omega arith
-
-kind-named-requires : tie.Need-kind-named-requires
-kind-named-requires c κs = search needs
-
-slice-aggregate-check-rows : tie.Need-slice-aggregate-check-rows
-slice-aggregate-check-rows c = sym (accepted-long (accepted (c .before .before .before .before .before .before .outline .ensures) (c .before .before .before .before .a .given .1)) refl)
-
-slice-aggregate-check-rows-2 : tie.Need-slice-aggregate-check-rows-2
-slice-aggregate-check-rows-2 c = search needs
-
-slice-aggregate-check-rows-3 : tie.Need-slice-aggregate-check-rows-3
-slice-aggregate-check-rows-3 c = search needs
-
-check-rows-requires : tie.Need-check-rows-requires
-unfolding numbers names table
-check-rows-requires c κs = (accepted-held (accepted (c .before .before .before .before .before .before .before .before .before .outline .ensures) (c .before .before .before .before .before .before .before .a .given .1)), refl, refl, c .before .before .before .before .before .before .before .before .before .before .before .before .before .pre)
-
-made-requires : tie.Need-made-requires
-made-requires c κs = search needs
-
-enum-known-a-2 : tie.Need-enum-known-a-2
-enum-known-a-2 c = search needs
-
-made-requires-2 : tie.Need-made-requires-2
-made-requires-2 c κs = search needs
-
-enum-known-a-3 : tie.Need-enum-known-a-3
-enum-known-a-3 c = search needs
-
-made-requires-3 : tie.Need-made-requires-3
-made-requires-3 c κs = search needs
-
-enum-known-a-4 : tie.Need-enum-known-a-4
-enum-known-a-4 c = search needs
-
-made-requires-4 : tie.Need-made-requires-4
-made-requires-4 c κs = search needs
+tell-requires : tie.Need-tell-requires
+tell-requires c κs = (c .before .before .before .before .before .before .before .pre, record { before = _; whole = refl; outlined = c .before .before .before .outline .ensures })
 
 same-length : tie.Need-same-length
 same-length c = search needs
 
 returns : tie.Need-returns
-returns c = cells-end (c .before .before .before .before .before .before .before .before .before .before .before .before .before .outline .ensures) (c .before .before .before .before .before .before .before .before .before .before .before .a .given .0 .0) (c .before .before .before .before .before .before .before .before .before .before .before .a .given .0 .1 .0) (c .before .before .before .before .before .before .before .before .before .before .before .a .given .1) (c .before .before .before .before .before .before .before .before .kind-named .ensures) (c .before .before .before .check-rows .ensures) (c .made .ensures)
-
-returns-2 : tie.Need-returns-2
-returns-2 c = cells-more (c .before .before .before .before .outline .ensures) (c .before .before .a2 .given .0 .0) (c .before .before .a2 .given .1) (c .made2 .ensures)
-
-returns-3 : tie.Need-returns-3
-returns-3 c = cells-malformed (c .before .before .before .before .outline .ensures) (c .before .before .a3 .given .0 .0) (c .before .before .a3 .given .0 .1 .0) (c .before .before .a3 .given .1) (c .made3 .ensures)
-
-returns-4 : tie.Need-returns-4
-returns-4 c = cells-too-long (c .before .before .before .before .outline .ensures) (c .before .before .a4 .given .0 .0) (c .before .before .a4 .given .1) (c .made4 .ensures)
+returns c = c .before .before .tell .ensures
 
 pub check-cells-spec : {M : Type 1} → statement M
 check-cells-spec =
     tie.close
     (tie.spec
+    slice-aggregate-outline
     outline-requires
-    enum-known-a
-    sub-kind-named
-    part-kind-named-start
-    part-kind-named-end
-    kind-named-requires
-    slice-aggregate-check-rows
-    slice-aggregate-check-rows-2
-    slice-aggregate-check-rows-3
-    check-rows-requires
-    made-requires
-    enum-known-a-2
-    made-requires-2
-    enum-known-a-3
-    made-requires-3
-    enum-known-a-4
-    made-requires-4
+    slice-aggregate-tell
+    tell-requires
     same-length
-    returns
-    returns-2
-    returns-3
-    returns-4)
+    returns)
