@@ -198,7 +198,7 @@ static void send_message(struct machine *m, uint64_t kind, uint64_t transfer) {
         m->forecasts++;
     }
     show_message(m, m->refusal == TRYPHOMEL_ACCEPTED ? "sends" : "may not", kind, transfer);
-    put_or_lose(m, out, s.written);
+    put_or_lose(m, out, (size_t)s.written);
 }
 
 /* Sends what the row says. */
@@ -281,7 +281,7 @@ static void refuse(struct machine *m, const uint8_t *out, const tryphomel_receiv
     snprintf(what, sizeof what, "with %u, %s", r->refusal, tryphomel_refusal_name(r->refusal));
     machine_show(m, "refuses", what);
     if (r->refusal == TRYPHOMEL_NO_ROOM) return;
-    machine_put(m, out, r->written);
+    machine_put(m, out, (size_t)r->written);
     hang_up(m);
 }
 
@@ -306,7 +306,7 @@ static int show_text(const struct machine *m, const char *words, tryphomel_words
     if (tryphomel_words_text(place, m->in, m->held, scratch, sizeof scratch, &bytes, &count) != TRYPHOMEL_ACCEPTED) return 0;
     printf("  %-10s          %s %.*s\n", m->name, words, (int)count, (const char *)bytes);
     fflush(stdout);
-    return count == strlen(other) && memcmp(bytes, other, count) == 0;
+    return count == strlen(other) && memcmp(bytes, other, strlen(other)) == 0;
 }
 
 /* What is said of forecasts: a new one comes, ours is answered, ours is declined. */
@@ -330,8 +330,8 @@ static void accept_message(struct machine *m, const uint8_t *out, const tryphome
     if (now->kind == TRYPHOMEL_BOARD_AVAILABLE) show_board(m, &r->message);
     note_forecast(m, &r->message);
     if (r->written > 0) machine_show(m, "answers", tryphomel_kind_name(TRYPHOMEL_CHECK_ALIVE));
-    put_or_lose(m, out, r->written);
-    machine_drop(m, r->used);
+    put_or_lose(m, out, (size_t)r->written);
+    machine_drop(m, (size_t)r->used);
     if (now->kind == TRYPHOMEL_STOP_TRANSPORT && now->transfer == TRYPHOMEL_COMPLETE && m->sees != TRYPHOMEL_COMPLETE) sense(m, LEFT);
     answer(m);
 }

@@ -187,7 +187,7 @@ static int look(struct machine *m, tryphomel_checked *c) {
     machine_drop(m, 0);
     if (tryphomel_message_check(m->in, m->held, c) != TRYPHOMEL_ACCEPTED) return 0;
     machine_show(m, "sees", tryphomel_kind_name(c->message.kind));
-    machine_drop(m, c->end);
+    machine_drop(m, (size_t)c->end);
     return 1;
 }
 

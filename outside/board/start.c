@@ -20,7 +20,10 @@ static void fault(void) {
     _Exit(3);
 }
 
+/* The first thing is to switch the floating point unit on, where there is one: programs for hard float may use it everywhere. */
 void reset(void) {
+    *(volatile uint32_t *)0xe000ed88 |= 15u << 20;
+    __asm__ volatile("dsb\n isb");
     initialise_monitor_handles();
     if (freopen("in", "rb", stdin) == NULL || freopen("out", "wb", stdout) == NULL) _Exit(2);
     exit(main());
