@@ -4,7 +4,7 @@ use mathlib.Core.List.{List, [], _∷_}
 use mathlib.Core.Bool.{Bool, true, false, cond}
 use Prim.Native.Nat.{ℕ, zero, suc, _+_, _-_, _≤_, _<_}
 use native.Mathlib.Omega.{arith}
-use lib.ListN.{take, drop}
+use lib.ListN.{length, take, drop}
 use lib.Dec.{eqb}
 use borrow.Author.Tests.{eq-eqb, ne-eqb}
 use Rattle.grammar.specs.Bytes.{Bytes}
@@ -98,13 +98,13 @@ module _ (s : Bytes) (base : ℕ) (table : List ℕ) (count inside from n : ℕ)
 -- of the message that an outline describes
 module _ {s : Bytes} {old new : List ℕ} {o : Outline} (p : Outlined s old new o) where
   pub decides-end : (start end : ℕ) {k : ℕ} {x : Ruling} {r : Decision} → length old ≡ 128 → o .answer ≡ Ends start end → k ≡ kindOf (take (o .to - o .from) (drop (o .from) s)) → Rules s (o .to) new (o .count) (o .inside) k x → r ≡ decidedBy k x → Decides s r
-  decides-end start end {k} {x} whole e q t h =
+  decides-end start end {k} {x} long e q t h =
       let a = accepted p e in
       ends start end (answers p e) (a .layout) (a .laid)
       (h
-      ∙ ap (decidedBy k) (t .says (accepted-held a whole) (take (o .to - o .from) (drop (o .from) s)) (childrenOf (readElement (child a))) (accepted-holds a))
-      ∙ ap (λ (k : ℕ). decidedBy k (firstRefused 0 (rowsOf k) (place (accepted-held a whole)) (tree (take (o .to - o .from) (drop (o .from) s)) (pairs (accepted-held a whole)) (childrenOf (readElement (child a)))))) q
-      ∙ as-read a whole (λ k place t. decidedBy k (firstRefused 0 (rowsOf k) place t))
+      ∙ ap (decidedBy k) (t .says (accepted-held a long) (take (o .to - o .from) (drop (o .from) s)) (childrenOf (readElement (child a))) (accepted-holds a))
+      ∙ ap (λ (k : ℕ). decidedBy k (firstRefused 0 (rowsOf k) (place (accepted-held a long)) (tree (take (o .to - o .from) (drop (o .from) s)) (pairs (accepted-held a long)) (childrenOf (readElement (child a)))))) q
+      ∙ as-read a long (λ k place t. decidedBy k (firstRefused 0 (rowsOf k) place t))
       ∙ ap (λ (rows : List Row). decidedBy (saidOf (readLayout (a .layout)) .kind) (firstRefused 0 rows (placesIn start (a .layout)) (childOf (readLayout (a .layout))))) (sym (rows-table (saidOf (readLayout (a .layout)) .kind) (childOf (readLayout (a .layout))))))
 
   pub decides-more : (start : ℕ) {r : Decision} → o .answer ≡ More start → r ≡ undecided 1 → Decides s r

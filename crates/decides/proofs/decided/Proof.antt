@@ -9,6 +9,9 @@ use borrow.Author.Needs.{needs}
 use Rattle.decides.proofs.decided.Statement.{statement}
 use Rattle.decides.proofs.decided.Tie as tie
 
+slice-aggregate-outline : tie.Need-slice-aggregate-outline
+slice-aggregate-outline c = search needs
+
 outline-requires : tie.Need-outline-requires
 outline-requires c κs = search needs
 
@@ -16,19 +19,19 @@ enum-known-a : tie.Need-enum-known-a
 enum-known-a c = search needs
 
 sub-kind-named : tie.Need-sub-kind-named
-sub-kind-named c = accepted-order (accepted (c .before .before .before .outline .ensures) (c .before .a .given .1))
+sub-kind-named c = accepted-order (accepted (c .before .before .before .before .outline .ensures) (c .before .a .given .1))
 
 part-kind-named-start : tie.Need-part-kind-named-start
-part-kind-named-start c = let o = accepted-order (accepted (c .before .before .before .outline .ensures) (c .before .a .given .1)) in let w = accepted-in (accepted (c .before .before .before .outline .ensures) (c .before .a .given .1)) in omega arith
+part-kind-named-start c = let o = accepted-order (accepted (c .before .before .before .before .outline .ensures) (c .before .a .given .1)) in let w = accepted-in (accepted (c .before .before .before .before .outline .ensures) (c .before .a .given .1)) in omega arith
 
 part-kind-named-end : tie.Need-part-kind-named-end
-part-kind-named-end c = let o = accepted-order (accepted (c .before .before .before .outline .ensures) (c .before .a .given .1)) in let w = accepted-in (accepted (c .before .before .before .outline .ensures) (c .before .a .given .1)) in omega arith
+part-kind-named-end c = let o = accepted-order (accepted (c .before .before .before .before .outline .ensures) (c .before .a .given .1)) in let w = accepted-in (accepted (c .before .before .before .before .outline .ensures) (c .before .a .given .1)) in omega arith
 
 kind-named-requires : tie.Need-kind-named-requires
 kind-named-requires c κs = search needs
 
 slice-aggregate-rule : tie.Need-slice-aggregate-rule
-slice-aggregate-rule c = sym (accepted-long (accepted (c .before .before .before .before .before .before .outline .ensures) (c .before .before .before .before .a .given .1)) refl)
+slice-aggregate-rule c = sym (accepted-long (accepted (c .before .before .before .before .before .before .before .outline .ensures) (c .before .before .before .before .a .given .1)) refl)
 
 slice-aggregate-rule-2 : tie.Need-slice-aggregate-rule-2
 slice-aggregate-rule-2 c = search needs
@@ -38,7 +41,7 @@ slice-aggregate-rule-3 c = search needs
 
 rule-requires : tie.Need-rule-requires
 unfolding numbers names table
-rule-requires c κs = (accepted-held (accepted (c .before .before .before .before .before .before .before .before .outline .ensures) (c .before .before .before .before .before .before .a .given .1)), refl, refl)
+rule-requires c κs = (accepted-held (accepted (c .before .before .before .before .before .before .before .before .before .outline .ensures) (c .before .before .before .before .before .before .a .given .1)) refl, refl, refl)
 
 made-requires : tie.Need-made-requires
 made-requires c κs = search needs
@@ -62,21 +65,22 @@ unread-requires-3 : tie.Need-unread-requires-3
 unread-requires-3 c κs = search needs
 
 returns : tie.Need-returns
-returns c = decides-end (c .before .before .before .before .before .before .before .before .before .before .outline .ensures) (c .before .before .before .before .before .before .before .before .a .given .0 .0) (c .before .before .before .before .before .before .before .before .a .given .0 .1 .0) (c .before .before .before .before .before .before .before .before .a .given .1) (c .before .before .before .before .before .kind-named .ensures) (c .before .rule .ensures) (c .made .ensures)
+returns c = decides-end (c .before .before .before .before .before .before .before .before .before .before .before .outline .ensures) (c .before .before .before .before .before .before .before .before .a .given .0 .0) (c .before .before .before .before .before .before .before .before .a .given .0 .1 .0) refl (c .before .before .before .before .before .before .before .before .a .given .1) (c .before .before .before .before .before .kind-named .ensures) (c .before .rule .ensures) (c .made .ensures)
 
 returns-2 : tie.Need-returns-2
-returns-2 c = decides-more (c .before .before .before .before .outline .ensures) (c .before .before .a2 .given .0 .0) (c .before .before .a2 .given .1) (c .unread .ensures)
+returns-2 c = decides-more (c .before .before .before .before .before .outline .ensures) (c .before .before .a2 .given .0 .0) (c .before .before .a2 .given .1) (c .unread .ensures)
 
 returns-3 : tie.Need-returns-3
-returns-3 c = decides-malformed (c .before .before .before .before .outline .ensures) (c .before .before .a3 .given .0 .0) (c .before .before .a3 .given .0 .1 .0) (c .before .before .a3 .given .1) (c .unread2 .ensures)
+returns-3 c = decides-malformed (c .before .before .before .before .before .outline .ensures) (c .before .before .a3 .given .0 .0) (c .before .before .a3 .given .0 .1 .0) (c .before .before .a3 .given .1) (c .unread2 .ensures)
 
 returns-4 : tie.Need-returns-4
-returns-4 c = decides-too-long (c .before .before .before .before .outline .ensures) (c .before .before .a4 .given .0 .0) (c .before .before .a4 .given .1) (c .unread3 .ensures)
+returns-4 c = decides-too-long (c .before .before .before .before .before .outline .ensures) (c .before .before .a4 .given .0 .0) (c .before .before .a4 .given .1) (c .unread3 .ensures)
 
 pub decided-spec : {M : Type 1} → statement M
 decided-spec =
     tie.close
     (tie.spec
+    slice-aggregate-outline
     outline-requires
     enum-known-a
     sub-kind-named

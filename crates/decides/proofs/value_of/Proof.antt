@@ -18,4 +18,10 @@ returns-2 : tie.Need-returns-2
 returns-2 c = attribute-stands (c .before .before .before .before .before .before .args .row) (c .before .before .if1 .left) (c .before .name-at .ensures) (c .find .ensures)
 
 pub value-of-spec : {M : Type 1} → statement M
-value-of-spec = tie.close (tie.spec returns name-at-requires find-requires returns-2)
+value-of-spec =
+    tie.close
+    (tie.spec
+    returns
+    name-at-requires
+    find-requires
+    returns-2)
