@@ -1,12 +1,14 @@
 -- Gaps and filler at places of a list, one law for each return.
 use mathlib.Core.Path.{_≡_, refl, sym, ap, subst, _∙_}
 use mathlib.Core.List.{[], _∷_}
-use mathlib.Core.Bool.{Bool, true, false}
+use mathlib.Core.Bool.{Bool, true, false, not}
 use Prim.Native.Nat.{ℕ, suc, _+_, _-_, _≤_, _<_}
 use native.Mathlib.Omega.{arith}
 use native.Mathlib.Numerals.{add-one}
 use lib.ListN.{length, drop, getD, drop-of-length-le}
 use lib.Seq.{drop-cons}
+use lib.Dec.{eqb}
+use borrow.Author.Tests.{not-true, eqb-false}
 use Rattle.exact.specs.Exact.{Out, done, more, bad}
 use Rattle.exact.specs.Ahead.{Ahead}
 use Rattle.grammar.specs.Bytes.{Bytes}
@@ -20,7 +22,7 @@ use Rattle.scan.specs.Unfold.{then-and, and-and}
 use Rattle.scan.proofs.Chain.{then-done, then-more, then-bad, Fails, never, pass}
 use Rattle.scan.specs.declared.Step.{Step}
 use Rattle.scan.specs.declared.Step.the-variants.{Done, Open, Bad}
-use Rattle.fillers.specs.Fills.{siteOf, fillTok, GotFiller, bitsP, calmly, GapCase, GotGap}
+use Rattle.fillers.specs.Fills.{siteOf, fillTok, GotFiller, TagAt, bitsP, calmly, GapCase, GotGap}
 use Rattle.fillers.proofs.BitLaws.{bits-end, bits-text, bits-short, bits-stop, bits-comment, glue-run}
 
 root-text : (b : ℕ) (t : Bytes) → isGlue b ≡ false → textP inRoot 0 (b ∷ t) ≡ bad (b ∷ t)
@@ -147,3 +149,10 @@ module _ (site : Site) (s : Bytes) (at : ℕ) where
                 upto = c .says .2;
                 same = w .same ∙ reached ∙ ap (λ (t : Bytes). bitsP site past (60 ∷ t)) q ∙ bits-comment site past (drop (j + 2) s) ∙ then-and (commentP (drop (j + 2) s)) (λ m u. bitsP site (added past (comment m)) u) ∙ then-done _ (c .says .3);
               }
+
+-- glue, and a tag behind it
+pub fill-glue : (site : Site) (s : Bytes) (at j : ℕ) → at ≤ length s → Skipped s at j → TagAt s j → GotFiller site s at (Done (j + 1))
+fill-glue site s at j h x t = let l = t .inside in fill-tag site s at at (fill-start site s at h) j (gap-lt s at j x site (omega arith) (t .opens)) l (t .apart)
+
+pub tag-there : {s : Bytes} {j : ℕ} → j + 1 < length s → getD s j 0 ≡ 60 → not (eqb (getD s (j + 1) 0) 33) ≡ true → TagAt s j
+tag-there {s} {j} l e z = record { inside = l; opens = e; apart = eqb-false (getD s (j + 1) 0) 33 (not-true (eqb (getD s (j + 1) 0) 33) z) }

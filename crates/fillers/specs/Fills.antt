@@ -74,6 +74,12 @@ pub record PlainRun (q : ℕ) (s : Bytes) (at r : ℕ) : Type 0 where
   pub upto : r ≤ length s
   pub plain : (k : ℕ) → at + k < r → plainByte (banned q) (getD s (at + k) 0) ≡ true
 
+-- a `<` stands at j, and no `!` behind it
+pub record TagAt (s : Bytes) (j : ℕ) : Type 0 where
+  pub inside : j + 1 < length s
+  pub opens : getD s j 0 ≡ 60
+  pub apart : getD s (j + 1) 0 ≡ 33 → ⊥
+
 -- behind a `-` that stands at i, or at i
 pub record PastDash (s : Bytes) (i r : ℕ) : Type 0 where
   pub says : ((getD s i 0 ≡ 45) × (r ≡ i + 1)) ⊎ ((getD s i 0 ≡ 45 → ⊥) × (r ≡ i))

@@ -1,8 +1,10 @@
-// What stands between elements: glue, comments, and below the root text. Where there is neither text nor comment, it is glue
-// and the byte behind `<`.
+// What stands between elements: glue, comments, and below the root text. Where there is neither text nor comment, glue is passed
+// over and two bytes are looked at.
+ghost use mathlib.Core.Path.{_≡_};
+ghost use mathlib.Core.Bool.{true};
 ghost use Prim.Native.Nat.{_≤_};
 ghost use lib.ListN.{length};
-ghost use Rattle.fillers.specs.Fills.{siteOf, GotGap, GotFiller};
+ghost use Rattle.fillers.specs.Fills.{siteOf, GotGap, TagAt, GotFiller};
 use scan::Step;
 
 pub mod comments;
@@ -27,8 +29,8 @@ fn gap(s: &[u8], at: usize, below: bool) -> Step
     Step::Bad(j)
 }
 
-/// What may stand between elements, and the `<` behind it; `below`: in an element below the root.
-pub fn filler_lt(s: &[u8], at: usize, below: bool) -> Step
+// Glue, comments and text, and the `<` behind them.
+fn bits(s: &[u8], at: usize, below: bool) -> Step
     requires { ⌜ at ≤ length (now s) ⌝ }
     ensures { λ r. ⌜ GotFiller (siteOf below) (now (s .entry)) at r ⌝ }
 {
@@ -50,4 +52,30 @@ pub fn filler_lt(s: &[u8], at: usize, below: bool) -> Step
         };
         i = e;
     }
+}
+
+// Whether a `<` stands at j that begins no comment.
+fn is_tag(s: &[u8], j: usize) -> bool
+    requires { ⌜ j ≤ length (now s) ⌝ }
+    ensures { λ r. ⌜ (r ≡ true → TagAt (now (s .entry)) j) ⌝ }
+{
+    if s.len() - j < 2 {
+        return false;
+    }
+    if s[j] != b'<' {
+        return false;
+    }
+    s[j + 1] != b'!'
+}
+
+/// What may stand between elements, and the `<` behind it; `below`: in an element below the root. Mostly it is glue alone.
+pub fn filler_lt(s: &[u8], at: usize, below: bool) -> Step
+    requires { ⌜ at ≤ length (now s) ⌝ }
+    ensures { λ r. ⌜ GotFiller (siteOf below) (now (s .entry)) at r ⌝ }
+{
+    let j = scan::skip_glue(s, at);
+    if is_tag(s, j) {
+        return Step::Done(j + 1);
+    }
+    bits(s, at, below)
 }
