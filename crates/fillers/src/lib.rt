@@ -29,8 +29,8 @@ fn gap(s: &[u8], at: usize, below: bool) -> Step
     Step::Bad(j)
 }
 
-// Glue, comments and text, and the `<` behind them.
-fn bits(s: &[u8], at: usize, below: bool) -> Step
+/// The same bit by bit, for where it is rarely read: the whole of it stands here once, and `filler_lt` is small where it is used.
+pub fn bits(s: &[u8], at: usize, below: bool) -> Step
     requires { ⌜ at ≤ length (now s) ⌝ }
     ensures { λ r. ⌜ GotFiller (siteOf below) (now (s .entry)) at r ⌝ }
 {

@@ -135,7 +135,7 @@ pub fn declared(s: &[u8], at: usize, table: &mut [u16]) -> Inner
     let Step::Done(a) = r else {
         return without(r);
     };
-    let r = fillers::filler_lt(s, a, false);
+    let r = fillers::bits(s, a, false);
     let Step::Done(a) = r else {
         return without(r);
     };

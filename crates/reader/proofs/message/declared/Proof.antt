@@ -21,8 +21,8 @@ without-requires c κs = search needs
 returns : tie.Need-returns
 returns c = inner-fails childOf declaredLead _ _ _ _ (c .without .ensures) (c .before .match .keys2) (declared-fails _ _ (c .before .match .keys2) (c .before .before .declaration .ensures))
 
-filler-lt-requires : tie.Need-filler-lt-requires
-filler-lt-requires c κs = let g = known (c .before .r .given .1) (c .before .before .before .declaration .ensures) in omega arith
+bits-requires : tie.Need-bits-requires
+bits-requires c κs = let g = known (c .before .r .given .1) (c .before .before .before .declaration .ensures) in omega arith
 
 enum-known-r-2 : tie.Need-enum-known-r-2
 enum-known-r-2 c = search needs
@@ -31,16 +31,16 @@ without-requires-2 : tie.Need-without-requires-2
 without-requires-2 c κs = search needs
 
 returns-2 : tie.Need-returns-2
-returns-2 c = inner-fails childOf declaredLead _ _ _ _ (c .without2 .ensures) (c .before .match2 .keys2) (declared-filler-fails _ _ _ (known (c .before .before .before .before .r .given .1) (c .before .before .before .before .before .before .declaration .ensures)) (c .before .match2 .keys2) (c .before .before .filler-lt .ensures))
+returns-2 c = inner-fails childOf declaredLead _ _ _ _ (c .without2 .ensures) (c .before .match2 .keys2) (declared-filler-fails _ _ _ (known (c .before .before .before .before .r .given .1) (c .before .before .before .before .before .before .declaration .ensures)) (c .before .match2 .keys2) (c .before .before .bits .ensures))
 
 root-requires : tie.Need-root-requires
-root-requires c κs = let g = known-filler (c .before .before .r2 .given .1) (c .before .before .before .before .filler-lt .ensures) in omega arith
+root-requires c κs = let g = known-filler (c .before .before .r2 .given .1) (c .before .before .before .before .bits .ensures) in omega arith
 
 same-length : tie.Need-same-length
 same-length c = search needs
 
 returns-3 : tie.Need-returns-3
-returns-3 c = declared-read _ _ _ (known (c .before .before .before .before .before .before .before .before .before .r .given .1) (c .before .before .before .before .before .before .before .before .before .before .before .declaration .ensures)) _ (known-filler (c .before .before .before .before .before .r2 .given .1) (c .before .before .before .before .before .before .before .filler-lt .ensures)) (c .before .before .root .ensures)
+returns-3 c = declared-read _ _ _ (known (c .before .before .before .before .before .before .before .before .before .r .given .1) (c .before .before .before .before .before .before .before .before .before .before .before .declaration .ensures)) _ (known-filler (c .before .before .before .before .before .r2 .given .1) (c .before .before .before .before .before .before .before .bits .ensures)) (c .before .before .root .ensures)
 
 pub declared-spec : {M : Type 1} → statement M
 declared-spec =
@@ -50,7 +50,7 @@ declared-spec =
     enum-known-r
     without-requires
     returns
-    filler-lt-requires
+    bits-requires
     enum-known-r-2
     without-requires-2
     returns-2
