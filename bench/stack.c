@@ -56,6 +56,7 @@ static void reads(void) {
 static void checks(void) { tryphomel_message_check(in, size, &checked); }
 static void receives(void) { tryphomel_lane_receive(&lane, in, size, out, sizeof out, &received); }
 static void sends(void) { tryphomel_lane_send(&lane, &message, in, size, out, sizeof out, &sent); }
+static void loses(void) { tryphomel_lane_lost(&lane); }
 static void asks(void) {
     uint64_t place, at, count;
     tryphomel_text((const uint8_t *)in, size, 1, 0, size, out, sizeof out, &place, &at, &count);
@@ -80,7 +81,7 @@ static void element(const char *opened, int n, const char *each, const char *clo
 static void input(int which) {
     const char *board = "<Hermes><BoardAvailable BoardId='5d10d8c0-8c0a-4d5e-9f2b-0123456789ab' BoardIdCreatedBy='m' FailedBoard='0' ProductTypeId='";
     switch (which) {
-        case 0: element("<Hermes><a><b><c><d>", 1, "<e/>", "</d></c></b></a></Hermes>"); break;
+        case 0: element("<Hermes><a><b><c><d>", 1, "<e f='\xe2\x82\xac&#8364;'/>", "</d></c></b></a></Hermes>"); break;
         case 1: element("<Hermes>", 100, "<a>", ""); break;
         case 2: element("<Hermes><a>", 13000, "<b/>", "</a></Hermes>"); break;
         case 3: element("<Hermes><a>", 6000, "<b></b>", "</a></Hermes>"); break;
@@ -93,13 +94,15 @@ static void input(int which) {
                         " o='' p='' q='' r='' s='' t='' u='' v='' w='' x='' y='' z='' A='' B='' C='' D='' E='' F=''/></Hermes>"); break;
         case 9: element("<Hermes><a b='", 65600, "v", ""); break;
         case 10: element("<Hermes><BoardForecast ForecastId='", 80, "&quot;", "' FailedBoard='0' FlippedBoard='0' Width='0160.50'/></Hermes>"); break;
+        case 11: element("<Hermes><ServiceDescription MachineId='m' LaneId='1' Version='1.6'><SupportedFeatures>", 1, "<x><y><z a='\xe2\x82\xac&#8364;'/></y></x>",
+                         "</SupportedFeatures></ServiceDescription></Hermes>"); break;
         default: element("", ROOM - 10, " ", ""); break;
     }
 }
 
 static void most(const char *name, void (*call)(void), size_t idle) {
     size_t bytes = 0;
-    for (int which = 0; which <= 11; which++) {
+    for (int which = 0; which <= 12; which++) {
         input(which);
         for (int state = 0; state <= TRYPHOMEL_FINISHED; state++) {
             memset(&lane, 0, sizeof lane);
@@ -165,5 +168,6 @@ int main(void) {
     most("tryphomel_receive", receives, idle);
     most_sent(idle);
     most("tryphomel_text", asks, idle);
+    most("tryphomel_lost", loses, idle);
     return 0;
 }

@@ -85,18 +85,14 @@ pub glue-read : {s : Bytes} {i j : ℕ} → GotTok 0 s i (Done j) (glueTok (drop
 unfolding glueTok
 glue-read {s} {i} {j} g = glue-token [] (drop i s) (take (j - i) (drop i s)) (drop j s) refl (g .says .2)
 
--- no quote among glue
-glue-lacks : (b : ℕ) → isGlue b ≡ true → (b ≡ 34 → ⊥) × (b ≡ 39 → ⊥)
+-- no `=` among glue
+glue-lacks : (b : ℕ) → isGlue b ≡ true → b ≡ 61 → ⊥
 unfolding isGlue
-glue-lacks b h = (λ e. clash (sym h ∙ ap isGlue e), λ e. clash (sym h ∙ ap isGlue e))
+glue-lacks b h e = clash (sym h ∙ ap isGlue e)
 
-lacks-glue : (s : Bytes) (i j : ℕ) → i ≤ j → j ≤ length s → every isGlue (take (j - i) (drop i s)) ≡ true → Lacks 34 39 s i (j - i)
+lacks-glue : (s : Bytes) (i j : ℕ) → i ≤ j → j ≤ length s → every isGlue (take (j - i) (drop i s)) ≡ true → Lacks 61 s i (j - i)
 lacks-glue s i j h l g k m =
     glue-lacks (getD s (i + k) 0) (sym (ap isGlue (part-at s i (j - i) k m)) ∙ every-at isGlue (take (j - i) (drop i s)) k g (omega (arith, part-long s i (j - i) (omega arith))))
-
-lacks-byte : (s : Bytes) (i : ℕ) → getD s i 0 ≡ 61 → Lacks 34 39 s i (i + 1 - i)
-lacks-byte s i e k l = let z : i + k ≡ i = omega arith in let f : getD s (i + k) 0 ≡ 61 = ap (λ (x : ℕ). getD s x 0) z ∙ e in
-    (λ q. absurd (let y : _≡_ {A = ℕ} 61 34 = sym f ∙ q in omega (arith, y)), λ q. absurd (let y : _≡_ {A = ℕ} 61 39 = sym f ∙ q in omega (arith, y)))
 
 part-size : (s : Bytes) (i j : ℕ) → i ≤ j → j ≤ length s → length (take (j - i) (drop i s)) ≡ j - i
 part-size s i j h k = rw (length-take, length-drop) (omega arith)
@@ -140,15 +136,17 @@ module _ (s : Bytes) (at : ℕ) where
             let y = part-size s j k (omega arith) (omega (arith, in-s)) in
             omega arith
 
-        no-quotes : Lacks 34 39 s at (k - at)
-        no-quotes =
-            let a = g₁ .says .0 in
-            let b = g₁ .says .1 in
-            let c = byte-next 61 s i j g₂ in
-            let d = g₃ .says .0 in
-            let h = in-s in
-            let eq : Lacks 34 39 s i (j - i) = subst (λ (x : ℕ). Lacks 34 39 s i (x - i)) (sym c) (lacks-byte s i (byte-is 61 s i j g₂)) in
-            lacks-join s at i k (omega arith) (lacks-glue s at i (omega arith) (omega arith) (glue-read g₁)) (lacks-join s i j k (omega arith) eq (lacks-glue s j k (omega arith) (omega arith) (glue-read g₃)))
+        before-equals : at ≤ i
+        before-equals = let a = g₁ .says .0 in omega arith
+
+        behind-equals : i + 1 ≤ k
+        behind-equals = let c = byte-next 61 s i j g₂ in let d = g₃ .says .0 in omega arith
+
+        no-equals : Lacks 61 s at (i - at)
+        no-equals = let a = g₁ .says .0 in let b = g₁ .says .1 in lacks-glue s at i (omega arith) (omega arith) (glue-read g₁)
+
+        is-spaced : every isGlue (take (k - (i + 1)) (drop (i + 1) s)) ≡ true
+        is-spaced = subst (λ (n : ℕ). every isGlue (take (k - n) (drop n s)) ≡ true) (byte-next 61 s i j g₂) (glue-read g₃)
 
         pub opened-quote : isQuote (getD s k 0) ≡ true → Opened s at (Done (k + 1))
         unfolding opening
@@ -163,7 +161,7 @@ module _ (s : Bytes) (at : ℕ) where
             to : (v : ℕ) → v ≡ k + 1 → openP (drop at s) ≡ done opening (drop (k + 1) s) → k < length s → OpenedTo s at v
             to v e r h =
                 let z : k + 1 - 1 ≡ k = omega arith in
-                rw e (record { opening = opening; far = ends; upto = omega arith; is-quote = q; quote = rw z; unopened = rw z no-quotes; reads = r })
+                rw e (record { opening = opening; far = ends; upto = omega arith; is-quote = q; quote = rw z; equals = i; from = before-equals; before = rw z behind-equals; unequal = no-equals; equal = byte-is 61 s i j g₂; spaced = rw z is-spaced; reads = r })
 
         pub opened-bare : isQuote (getD s k 0) ≡ false → Opened s at (Bad k)
         opened-bare q =
@@ -235,12 +233,11 @@ module _ (q : ℕ) (is-q : isQuote q ≡ true) (s : Bytes) (v f : ℕ) (l : List
   byte-of : (n : ℕ) → getD s (v + n) 0 ≡ getD (spellValue l ++ q ∷ value-word .0) n 0
   byte-of n = sym (getD-drop v s n 0) ∙ ap (λ (m : Bytes). getD m n 0) (value-word .2 ∙ append-assoc (spellValue l) (q ∷ []) (value-word .0))
 
-  pub value-unshut : Lacks q q s v (f - 1 - v)
+  pub value-unshut : Lacks q s v (f - 1 - v)
   value-unshut n m =
       let z = size in
       let b : n < length (spellValue l) = omega arith in
-      let no : getD s (v + n) 0 ≡ q → ⊥ = λ w. lacks-byte-at q (spellValue l) (q ∷ value-word .0) n b (value-unquoted q l is-q (value-word .1)) (sym (byte-of n) ∙ w) in
-      (no, no)
+      λ w. lacks-byte-at q (spellValue l) (q ∷ value-word .0) n b (value-unquoted q l is-q (value-word .1)) (sym (byte-of n) ∙ w)
 
   pub value-shut : getD s (f - 1) 0 ≡ q
   value-shut =
@@ -248,10 +245,10 @@ module _ (q : ℕ) (is-q : isQuote q ≡ true) (s : Bytes) (v f : ℕ) (l : List
       let b : f - 1 ≡ v + length (spellValue l) = omega arith in
       ap (λ (m : ℕ). getD s m 0) b ∙ byte-of (length (spellValue l)) ∙ getD-append-seam (spellValue l) q (value-word .0) 0
 
--- a name has no quote
-name-lacks : (b : ℕ) → nameByte b ≡ true → (b ≡ 34 → ⊥) × (b ≡ 39 → ⊥)
+-- a name has no `=`
+name-lacks : (b : ℕ) → nameByte b ≡ true → b ≡ 61 → ⊥
 unfolding nameByte nameStart letter within digit
-name-lacks b h = (λ e. clash (sym h ∙ ap nameByte e), λ e. clash (sym h ∙ ap nameByte e))
+name-lacks b h e = clash (sym h ∙ ap nameByte e)
 
 -- a whole attribute
 fresh-fails : {s : Bytes} {earlier : List Bytes} {at : ℕ} {r : Step} → Fails r → Fresh s earlier at r → (may : Bool) (st : State) (g : Bytes) → st .seen ≡ earlier → Got 1 s at r (attrP may st g (drop at s))
@@ -288,6 +285,7 @@ module _ (s : Bytes) (earlier : List Bytes) (at e v f : ℕ) (starts : nameStart
       let w : v - 1 + 1 ≡ v = omega arith in
       record {
         start = at;
+        equals = o .equals;
         opens = v - 1;
         shuts = f - 1;
         begins = h;
@@ -296,11 +294,14 @@ module _ (s : Bytes) (earlier : List Bytes) (at e v f : ℕ) (starts : nameStart
         name-is = ap (λ (m : ℕ). take m (drop at s)) (sym n);
         named = λ m p. y .named m (omega (arith, n, p));
         name-ends = ap (λ (m : ℕ). nameByte (getD s m 0)) (ap (λ (m : ℕ). at + m) n ∙ d) ∙ y .ends;
-        inside = omega arith;
-        unopened = lacks-join s at e (v - 1) (omega arith) (λ m p. name-lacks (getD s (at + m) 0) (y .named m p)) (o .unopened);
+        inside = let p = o .from in omega arith;
+        unequal = lacks-join s at e (o .equals) (omega arith) (λ m p. name-lacks (getD s (at + m) 0) (y .named m p)) (o .unequal);
+        equal = o .equal;
+        apart = let p = o .before in omega arith;
+        spaced = o .spaced;
         quote = open-quote o .is;
         order = omega arith;
-        unshut = subst (λ (m : ℕ). Lacks (getD s (v - 1) 0) (getD s (v - 1) 0) s m (f - 1 - m)) (sym w) (value-unshut (getD s (v - 1) 0) (open-quote o .is) s v f l (o .upto) k value);
+        unshut = subst (λ (m : ℕ). Lacks (getD s (v - 1) 0) s m (f - 1 - m)) (sym w) (value-unshut (getD s (v - 1) 0) (open-quote o .is) s v f l (o .upto) k value);
         shut = value-shut (getD s (v - 1) 0) (open-quote o .is) s v f l (o .upto) k value;
         far = omega arith;
         upto = k;

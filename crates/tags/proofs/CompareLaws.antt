@@ -9,7 +9,7 @@ use native.Mathlib.Nat.{add-zero, sub-zero}
 use lib.Seq.{drop-cons, getD-take, getD-drop}
 use lib.Dec.{eqb, leb}
 use borrow.Author.Tests.{leb-true, leb-false, eq-eqb, ne-eqb, eqb-false, not-true}
-use Rattle.model.specs.Tests.{and-left, and-right, same-true}
+use Rattle.model.specs.Tests.{and-left, and-right, and-false, same-true}
 use Rattle.grammar.specs.Bytes.{Bytes, every, same}
 use Rattle.tags.specs.Names.{Agree, Lacks}
 
@@ -79,21 +79,27 @@ alike-many s a b n h j (suc k) i p =
     subst (λ (x : ℕ). Alike s a b n x) (omega arith) (alike-next s a b n k (alike-many s a b n h j k (omega arith) (λ m l. p m (omega arith))) h j (omega arith) (p k (omega arith)))
 
 -- one stretch behind the other
-pub lacks-join : {p q : ℕ} (s : Bytes) (i j k : ℕ) → i ≤ j → Lacks p q s i (j - i) → Lacks p q s j (k - j) → Lacks p q s i (k - i)
-lacks-join {p} {q} s i j k h a b m l = go (leb (suc m) (j - i)) refl
+pub lacks-join : {q : ℕ} (s : Bytes) (i j k : ℕ) → i ≤ j → Lacks q s i (j - i) → Lacks q s j (k - j) → Lacks q s i (k - i)
+lacks-join {q} s i j k h a b m l = go (leb (suc m) (j - i)) refl
   where
-    go : (z : Bool) → leb (suc m) (j - i) ≡ z → (getD s (i + m) 0 ≡ p → ⊥) × (getD s (i + m) 0 ≡ q → ⊥)
+    go : (z : Bool) → leb (suc m) (j - i) ≡ z → getD s (i + m) 0 ≡ q → ⊥
     go true e = a m (leb-true (suc m) (j - i) e)
     go false e =
         let n = leb-false (suc m) (j - i) e in
         let z : j + (m - (j - i)) ≡ i + m = omega arith in
-        subst (λ (x : ℕ). (getD s x 0 ≡ p → ⊥) × (getD s x 0 ≡ q → ⊥)) z (b (m - (j - i)) (omega arith))
+        subst (λ (x : ℕ). getD s x 0 ≡ q → ⊥) z (b (m - (j - i)) (omega arith))
 
-pub lacks-more : {p q : ℕ} (s : Bytes) (at i n : ℕ) → at ≤ i → Lacks p q s at (i - at) → Lacks p q s i n → Lacks p q s at (i + n - at)
+pub lacks-more : {q : ℕ} (s : Bytes) (at i n : ℕ) → at ≤ i → Lacks q s at (i - at) → Lacks q s i n → Lacks q s at (i + n - at)
 lacks-more s at i n h a b = lacks-join s at i (i + n) h a (λ k l. b k (omega arith))
 
-pub lacks-one : {p q : ℕ} (s : Bytes) (i : ℕ) → (getD s i 0 ≡ p → ⊥) → (getD s i 0 ≡ q → ⊥) → Lacks p q s i 1
-lacks-one s i a b k l = let z : i ≡ i + k = omega arith in (λ e. a (ap (λ (x : ℕ). getD s x 0) z ∙ e), λ e. b (ap (λ (x : ℕ). getD s x 0) z ∙ e))
+pub lacks-one : {q : ℕ} (s : Bytes) (i : ℕ) → (getD s i 0 ≡ q → ⊥) → Lacks q s i 1
+lacks-one s i a k l e = let z : i ≡ i + k = omega arith in a (ap (λ (x : ℕ). getD s x 0) z ∙ e)
 
-pub apart-test : (b p q : ℕ) → not (eqb b p) && not (eqb b q) ≡ true → (b ≡ p → ⊥) × (b ≡ q → ⊥)
-apart-test b p q h = (eqb-false b p (not-true _ (and-left (not (eqb b p)) (not (eqb b q)) h)), eqb-false b q (not-true _ (and-right (not (eqb b p)) (not (eqb b q)) h)))
+pub apart-test : (b q : ℕ) → not (eqb b q) ≡ true → b ≡ q → ⊥
+apart-test b q h = eqb-false b q (not-true _ h)
+
+-- names whose first bytes differ
+pub first-differs : (s : Bytes) (a b n : ℕ) (z : Bool) → a + n ≤ length s → b + n ≤ length s → 0 < n → (getD s a 0 ≡ getD s b 0 → ⊥) → false ≡ z && same (take n (drop a s)) (take n (drop b s))
+first-differs s a b n z h j i e =
+    let f : same (take n (drop a s)) (take n (drop b s)) ≡ false = sym (alike-miss s a b n 0 (alike-start s a b n) h j i (λ q. e (ap (λ (x : ℕ). getD s x 0) (sym (add-zero a)) ∙ q ∙ ap (λ (x : ℕ). getD s x 0) (add-zero b)))) in
+    sym (and-false z (same (take n (drop a s)) (take n (drop b s))) f)

@@ -1,7 +1,6 @@
 -- The walk over attributes that are known to be right: each name is found again, and each value ends at the next quote like its first.
 use mathlib.Core.Path.{_≡_, refl, sym, ap, subst, _∙_}
 use mathlib.Core.List.{List, [], _∷_}
-use mathlib.Core.Logic.{_⊎_, inl, inr}
 use mathlib.Core.Bool.{Bool, true, false, _&&_, _||_, not}
 use Prim.Native.Nat.{ℕ, _+_, _-_, _≤_, _<_}
 use native.Mathlib.Omega.{arith}
@@ -11,7 +10,7 @@ use borrow.Author.Tests.{leb-true, leb-false}
 use Rattle.exact.specs.Chain.{clash}
 use Rattle.model.specs.Tests.{and-false, same-true}
 use Rattle.model.specs.Names.{start-not-glue}
-use Rattle.model.specs.Values.{quote-is}
+use Rattle.model.specs.Glue.{quote-not-glue}
 use Rattle.grammar.specs.Bytes.{Bytes, every, same, among}
 use Rattle.grammar.specs.Glue.{isGlue}
 use Rattle.grammar.specs.Name.{nameByte}
@@ -50,24 +49,17 @@ skip-is s i j k h a b n w = go (order j k)
     go (here e) = e
     go (behind l) = clash (sym (glue-at s i j k (w .walked .begun) a l (w .walked .upto)) ∙ n)
 
-lacks-at : (p q : ℕ) (s : Bytes) (i n k : ℕ) → Lacks p q s i n → i ≤ k → k - i < n → (getD s k 0 ≡ p) ⊎ (getD s k 0 ≡ q) → ⊥
-lacks-at p q s i n k w a b f = go f
-  where
-    e : i + (k - i) ≡ k
-    e = omega arith
+lacks-at : (q : ℕ) (s : Bytes) (i n k : ℕ) → Lacks q s i n → i ≤ k → k - i < n → getD s k 0 ≡ q → ⊥
+lacks-at q s i n k w a b f = let e : i + (k - i) ≡ k = omega arith in w (k - i) b (ap (λ (m : ℕ). getD s m 0) e ∙ f)
 
-    go : (getD s k 0 ≡ p) ⊎ (getD s k 0 ≡ q) → ⊥
-    go (inl x) = w (k - i) b .0 (ap (λ (m : ℕ). getD s m 0) e ∙ x)
-    go (inr x) = w (k - i) b .1 (ap (λ (m : ℕ). getD s m 0) e ∙ x)
-
--- the first byte that is p or q is the one before which there is none
-found-is : (p q : ℕ) (s : Bytes) (i stop r k : ℕ) → Found p q s i stop r → i ≤ k → k < stop → Lacks p q s i (k - i) → (getD s k 0 ≡ p) ⊎ (getD s k 0 ≡ q) → r ≡ k
-found-is p q s i stop r k w a b n f = go (order r k)
+-- the first byte that is q is the one before which there is none
+found-is : (q : ℕ) (s : Bytes) (i stop r k : ℕ) → Found q s i stop r → i ≤ k → k < stop → Lacks q s i (k - i) → getD s k 0 ≡ q → r ≡ k
+found-is q s i stop r k w a b n f = go (order r k)
   where
     go : Order r k → r ≡ k
-    go (before l) = let z = w .from in absurd (lacks-at p q s i (k - i) r n z (omega arith) (w .is (omega arith)))
+    go (before l) = let z = w .from in absurd (lacks-at q s i (k - i) r n z (omega arith) (w .is (omega arith)))
     go (here e) = e
-    go (behind l) = absurd (lacks-at p q s i (r - i) k (w .lacks) a (omega arith) f)
+    go (behind l) = absurd (lacks-at q s i (r - i) k (w .lacks) a (omega arith) f)
 
 -- a whole name, compared by its bytes and the one behind them
 module _ (s : Bytes) (a b n : ℕ) (h : b + n ≤ length s) (less : a < b) (is-name : Named s b n) (name : Bytes) (is : name ≡ take (length name) (drop a s)) (named : Named s a (length name))
@@ -108,7 +100,7 @@ pub data Ahead (s : Bytes) (end : ℕ) : ℕ → List Bytes → Type 0 where
   ahead-more : {i e : ℕ} {name : Bytes} {l : List Bytes} → One s i e name → Ahead s end e l → Ahead s end i (name ∷ l)
 
 one-less : {s : Bytes} {i e : ℕ} {name : Bytes} (o : One s i e name) → (i ≤ o .start) × (o .start < e) × (o .start < length s)
-one-less o = let a = o .begins in let b = o .inside in let c = o .order in let d = o .far in let f = o .upto in (a, omega arith, omega arith)
+one-less o = let a = o .begins in let b = o .inside in let z = o .apart in let c = o .order in let d = o .far in let f = o .upto in (a, omega arith, omega arith)
 
 ahead-le : {s : Bytes} {end i : ℕ} {l : List Bytes} → Ahead s end i l → i ≤ end
 ahead-le (ahead-none e) = omega arith
@@ -194,37 +186,50 @@ module _ (s : Bytes) (first at to : ℕ) where
         pub walk-found : true ≡ not (nameByte (getD s (j + (to - at)) 0)) && same (take (to - at) (drop j s)) (take (to - at) (drop at s)) → Repeats s first at to true
         walk-found f = record { says = λ h. let v = here-at h in sym (v .same-so ∙ ap (λ (z : Bool). z || among (v .rest) (take (to - at) (drop at s))) (sym (compared v) ∙ sym f)) }
 
-        module _ (a : ℕ) (f : Found 34 39 s j at a) where
-          opens-at : {end : ℕ} {names : List Bytes} (h : Stood s first at) → end ≤ at → (v : Here s end names (take (to - at) (drop at s)) i j) → a ≡ v .one .opens
-          opens-at h le v =
+        module _ (e : ℕ) (f : Found 61 s j at e) where
+          equals-at : {end : ℕ} {names : List Bytes} → end ≤ at → (v : Here s end names (take (to - at) (drop at s)) i j) → e ≡ v .one .equals
+          equals-at le v =
               let o = v .one in
-              let p = o .inside in let q = o .order in let r = o .far in let t = ahead-le (v .ahead) in let u = v .is in
-              found-is 34 39 s j at a (o .opens) f (omega arith) (omega arith) (λ m l. subst (λ (z : ℕ). (getD s (z + m) 0 ≡ 34 → ⊥) × (getD s (z + m) 0 ≡ 39 → ⊥)) (sym u) (o .unopened m (omega arith))) (quote-is (getD s (o .opens) 0) (o .quote))
+              let p = o .inside in let z = o .apart in let q = o .order in let r = o .far in let t = ahead-le (v .ahead) in let u = v .is in
+              found-is 61 s j at e (o .equals) f (omega arith) (omega arith) (λ m l. subst (λ (z : ℕ). getD s (z + m) 0 ≡ 61 → ⊥) (sym u) (o .unequal m (omega arith))) (o .equal)
 
-          pub walk-opens : Stood s first at → a < at
-          walk-opens h =
+          pub walk-equals : Stood s first at → e + 1 ≤ length s
+          walk-equals h =
               let v = here-at h in
-              let p = opens-at h (h .from) v in let q = v .one .order in let r = v .one .far in let t = ahead-le (v .ahead) in let u = h .from in
+              let p = equals-at (h .from) v in let z = v .one .apart in let q = v .one .order in let r = v .one .far in let t = v .one .upto in
               omega arith
 
-          module _ (e : ℕ) (g : Found (getD s a 0) (getD s a 0) s (a + 1) at e) where
-            shuts-at : {end : ℕ} {names : List Bytes} → end ≤ at → (v : Here s end names (take (to - at) (drop at s)) i j) → a ≡ v .one .opens → e ≡ v .one .shuts
-            shuts-at le v p =
+          module _ (a : ℕ) (k′ : Skipped s (e + 1) a) where
+            opens-at : {end : ℕ} {names : List Bytes} → end ≤ at → (v : Here s end names (take (to - at) (drop at s)) i j) → a ≡ v .one .opens
+            opens-at le v =
                 let o = v .one in
-                let q = o .order in let r = o .far in let t = ahead-le (v .ahead) in
-                found-is (getD s a 0) (getD s a 0) s (a + 1) at e (o .shuts) g (omega arith) (omega arith)
-                (λ m l. subst (λ (z : ℕ). (getD s (z + 1 + m) 0 ≡ getD s z 0 → ⊥) × (getD s (z + 1 + m) 0 ≡ getD s z 0 → ⊥)) (sym p) (o .unshut m (omega arith)))
-                (inl (o .shut ∙ ap (λ (z : ℕ). getD s z 0) (sym p)))
+                let p = equals-at le v in let z = o .apart in let q = o .order in let r = o .far in let t = o .upto in
+                skip-is s (e + 1) a (o .opens) (subst (λ (m : ℕ). every isGlue (take (o .opens - (m + 1)) (drop (m + 1) s)) ≡ true) (sym p) (o .spaced)) (omega arith) (omega arith) (quote-not-glue (getD s (o .opens) 0) (o .quote)) k′
 
-            pub walk-on : false ≡ not (nameByte (getD s (j + (to - at)) 0)) && same (take (to - at) (drop j s)) (take (to - at) (drop at s)) → Walk s first at to (e + 1)
-            walk-on b = record { left = λ h. go h (here-at h) }
-              where
-                go : (h : Stood s first at) → Here s (h .upto) (h .names) (take (to - at) (drop at s)) i j → Left s (h .upto) (h .names) (take (to - at) (drop at s)) (e + 1)
-                go h v =
-                    let p = shuts-at (h .from) v (opens-at h (h .from) v) in
-                    let q : v .e ≡ e + 1 = sym (v .one .far) ∙ ap (λ (m : ℕ). m + 1) (sym p) in
-                    record {
-                      left = v .rest;
-                      ahead = subst (λ (m : ℕ). Ahead s (h .upto) m (v .rest)) q (v .ahead);
-                      same-so = v .same-so ∙ ap (λ (z : Bool). z || among (v .rest) (take (to - at) (drop at s))) (sym (compared v) ∙ sym b);
-                    }
+            pub walk-opens : Stood s first at → a < at
+            walk-opens h =
+                let v = here-at h in
+                let p = opens-at (h .from) v in let q = v .one .order in let r = v .one .far in let t = ahead-le (v .ahead) in let u = h .from in
+                omega arith
+
+            module _ (x : ℕ) (g : Found (getD s a 0) s (a + 1) at x) where
+              shuts-at : {end : ℕ} {names : List Bytes} → end ≤ at → (v : Here s end names (take (to - at) (drop at s)) i j) → a ≡ v .one .opens → x ≡ v .one .shuts
+              shuts-at le v p =
+                  let o = v .one in
+                  let q = o .order in let r = o .far in let t = ahead-le (v .ahead) in
+                  found-is (getD s a 0) s (a + 1) at x (o .shuts) g (omega arith) (omega arith)
+                  (λ m l. subst (λ (z : ℕ). getD s (z + 1 + m) 0 ≡ getD s z 0 → ⊥) (sym p) (o .unshut m (omega arith)))
+                  (o .shut ∙ ap (λ (z : ℕ). getD s z 0) (sym p))
+
+              pub walk-on : false ≡ not (nameByte (getD s (j + (to - at)) 0)) && same (take (to - at) (drop j s)) (take (to - at) (drop at s)) → Walk s first at to (x + 1)
+              walk-on b = record { left = λ h. go h (here-at h) }
+                where
+                  go : (h : Stood s first at) → Here s (h .upto) (h .names) (take (to - at) (drop at s)) i j → Left s (h .upto) (h .names) (take (to - at) (drop at s)) (x + 1)
+                  go h v =
+                      let p = shuts-at (h .from) v (opens-at (h .from) v) in
+                      let q : v .e ≡ x + 1 = sym (v .one .far) ∙ ap (λ (m : ℕ). m + 1) (sym p) in
+                      record {
+                        left = v .rest;
+                        ahead = subst (λ (m : ℕ). Ahead s (h .upto) m (v .rest)) q (v .ahead);
+                        same-so = v .same-so ∙ ap (λ (z : Bool). z || among (v .rest) (take (to - at) (drop at s))) (sym (compared v) ∙ sym b);
+                      }

@@ -37,7 +37,12 @@ pub record OpenedTo (s : Bytes) (at v : ℕ) : Type 0 where
   pub upto : v ≤ length s
   pub is-quote : isQuote (opening .quote) ≡ true
   pub quote : opening .quote ≡ getD s (v - 1) 0
-  pub unopened : Lacks 34 39 s at (v - 1 - at)
+  pub equals : ℕ
+  pub from : at ≤ equals
+  pub before : equals + 1 ≤ v - 1
+  pub unequal : Lacks 61 s at (equals - at)
+  pub equal : getD s equals 0 ≡ 61
+  pub spaced : every isGlue (take (v - 1 - (equals + 1)) (drop (equals + 1) s)) ≡ true
   pub reads : openP (drop at s) ≡ done opening (drop v s)
 
 pub record Opened (s : Bytes) (at : ℕ) (r : Step) : Type 0 where

@@ -39,20 +39,21 @@ Agree s a b n = (k : ℕ) → k < n → getD s (a + k) 0 ≡ getD s (b + k) 0
 abbrev pub Named : Bytes → ℕ → ℕ → Type 0
 Named s i n = (k : ℕ) → k < n → nameByte (getD s (i + k) 0) ≡ true
 
--- n bytes from i on are neither p nor q
-abbrev pub Lacks : ℕ → ℕ → Bytes → ℕ → ℕ → Type 0
-Lacks p q s i n = (k : ℕ) → k < n → (getD s (i + k) 0 ≡ p → ⊥) × (getD s (i + k) 0 ≡ q → ⊥)
+-- none of n bytes from i on is q
+abbrev pub Lacks : ℕ → Bytes → ℕ → ℕ → Type 0
+Lacks q s i n = (k : ℕ) → k < n → getD s (i + k) 0 ≡ q → ⊥
 
--- r is the first place from i on, before `stop`, of a byte that is p or q; `stop` if there is none
-pub record Found (p q : ℕ) (s : Bytes) (i stop r : ℕ) : Type 0 where
+-- r is the first place from i on, before `stop`, of a byte that is q; `stop` if there is none
+pub record Found (q : ℕ) (s : Bytes) (i stop r : ℕ) : Type 0 where
   pub from : i ≤ r
   pub upto : r ≤ stop
-  pub lacks : Lacks p q s i (r - i)
-  pub is : r < stop → (getD s r 0 ≡ p) ⊎ (getD s r 0 ≡ q)
+  pub lacks : Lacks q s i (r - i)
+  pub is : r < stop → getD s r 0 ≡ q
 
--- an attribute stands with its glue from i up to e: where its name starts, and its quotes
+-- an attribute stands with its glue from i up to e: where its name starts, its `=` and its quotes
 pub record One (s : Bytes) (i e : ℕ) (name : Bytes) : Type 0 where
   pub start : ℕ
+  pub equals : ℕ
   pub opens : ℕ
   pub shuts : ℕ
   pub begins : i ≤ start
@@ -61,11 +62,14 @@ pub record One (s : Bytes) (i e : ℕ) (name : Bytes) : Type 0 where
   pub name-is : name ≡ take (length name) (drop start s)
   pub named : Named s start (length name)
   pub name-ends : nameByte (getD s (start + length name) 0) ≡ false
-  pub inside : start + length name ≤ opens
-  pub unopened : Lacks 34 39 s start (opens - start)
+  pub inside : start + length name ≤ equals
+  pub unequal : Lacks 61 s start (equals - start)
+  pub equal : getD s equals 0 ≡ 61
+  pub apart : equals < opens
+  pub spaced : every isGlue (take (opens - (equals + 1)) (drop (equals + 1) s)) ≡ true
   pub quote : isQuote (getD s opens 0) ≡ true
   pub order : opens < shuts
-  pub unshut : Lacks (getD s opens 0) (getD s opens 0) s (opens + 1) (shuts - (opens + 1))
+  pub unshut : Lacks (getD s opens 0) s (opens + 1) (shuts - (opens + 1))
   pub shut : getD s shuts 0 ≡ getD s opens 0
   pub far : shuts + 1 ≡ e
   pub upto : e ≤ length s

@@ -83,38 +83,39 @@ fn alike(s: &[u8], a: usize, b: usize, n: usize) -> bool
     true
 }
 
-// 1 if b is neither p nor q, else 0: a number, so that no branch is guessed.
-fn apart(b: u8, p: u8, q: u8) -> u8
+// 1 if b is not q, else 0: a number, so that no branch is guessed.
+fn apart(b: u8, q: u8) -> u8
     ensures small { λ r. ⌜ r ≤ 1 ⌝ }
-    ensures one { λ r. ⌜ (r ≡ 1 → (b ≡ p → ⊥) × (b ≡ q → ⊥)) ⌝ }
+    ensures one { λ r. ⌜ (r ≡ 1 → b ≡ q → ⊥) ⌝ }
 {
-    ((b != p) & (b != q)) as u8
+    (b != q) as u8
 }
 
-// Whether none of the eight bytes at i is p or q.
-fn eight_apart(s: &[u8], i: usize, p: u8, q: u8) -> bool
+// Whether none of the eight bytes at i is q.
+fn eight_apart(s: &[u8], i: usize, q: u8) -> bool
     requires { ⌜ i + 8 ≤ length (now s) ⌝ }
-    ensures { λ r. ⌜ (r ≡ true → Lacks p q (now (s .entry)) i 8) ⌝ }
+    ensures { λ r. ⌜ (r ≡ true → Lacks q (now (s .entry)) i 8) ⌝ }
 {
-    let n = apart(s[i], p, q)
-        + apart(s[i + 1], p, q)
-        + apart(s[i + 2], p, q)
-        + apart(s[i + 3], p, q)
-        + apart(s[i + 4], p, q)
-        + apart(s[i + 5], p, q)
-        + apart(s[i + 6], p, q)
-        + apart(s[i + 7], p, q);
+    let n = apart(s[i], q)
+        + apart(s[i + 1], q)
+        + apart(s[i + 2], q)
+        + apart(s[i + 3], q)
+        + apart(s[i + 4], q)
+        + apart(s[i + 5], q)
+        + apart(s[i + 6], q)
+        + apart(s[i + 7], q);
     n == 8
 }
 
-// Where fewer than eight bytes in a row are neither p nor q.
-fn apart_eights(s: &[u8], at: usize, stop: usize, p: u8, q: u8) -> usize
+// Where fewer than eight bytes in a row are not `=`. This and the next one, and those for quotes, have one caller each: so they are put into it, and no
+// slice is handed over in the walk.
+fn equals_eights(s: &[u8], at: usize, stop: usize) -> usize
     requires { ⌜ (at ≤ stop) × (stop ≤ length (now s)) ⌝ }
-    ensures { λ r. ⌜ (at ≤ r) × (r ≤ stop) × Lacks p q (now (s .entry)) at (r - at) ⌝ }
+    ensures { λ r. ⌜ (at ≤ r) × (r ≤ stop) × Lacks 61 (now (s .entry)) at (r - at) ⌝ }
 {
     let mut i = at;
     while 8 <= stop - i {
-        if !eight_apart(s, i, p, q) {
+        if !eight_apart(s, i, b'=') {
             return i;
         }
         i += 8;
@@ -122,18 +123,44 @@ fn apart_eights(s: &[u8], at: usize, stop: usize, p: u8, q: u8) -> usize
     i
 }
 
-// The first place from `at` on, before `stop`, of a byte that is p or q.
-fn next_of(s: &[u8], at: usize, stop: usize, p: u8, q: u8) -> usize
+// The first `=` from `at` on, before `stop`.
+fn next_equals(s: &[u8], at: usize, stop: usize) -> usize
     requires { ⌜ (at ≤ stop) × (stop ≤ length (now s)) ⌝ }
-    ensures { λ r. ⌜ Found p q (now (s .entry)) at stop r ⌝ }
+    ensures { λ r. ⌜ Found 61 (now (s .entry)) at stop r ⌝ }
 {
-    let mut i = apart_eights(s, at, stop, p, q);
+    let mut i = equals_eights(s, at, stop);
     while i < stop {
-        let b = s[i];
-        if b == p {
+        if s[i] == b'=' {
             return i;
         }
-        if b == q {
+        i += 1;
+    }
+    i
+}
+
+// Where fewer than eight bytes in a row are not q.
+fn quote_eights(s: &[u8], at: usize, stop: usize, q: u8) -> usize
+    requires { ⌜ (at ≤ stop) × (stop ≤ length (now s)) ⌝ }
+    ensures { λ r. ⌜ (at ≤ r) × (r ≤ stop) × Lacks q (now (s .entry)) at (r - at) ⌝ }
+{
+    let mut i = at;
+    while 8 <= stop - i {
+        if !eight_apart(s, i, q) {
+            return i;
+        }
+        i += 8;
+    }
+    i
+}
+
+// The first q from `at` on, before `stop`.
+fn next_quote(s: &[u8], at: usize, stop: usize, q: u8) -> usize
+    requires { ⌜ (at ≤ stop) × (stop ≤ length (now s)) ⌝ }
+    ensures { λ r. ⌜ Found q (now (s .entry)) at stop r ⌝ }
+{
+    let mut i = quote_eights(s, at, stop, q);
+    while i < stop {
+        if s[i] == q {
             return i;
         }
         i += 1;
@@ -143,17 +170,20 @@ fn next_of(s: &[u8], at: usize, stop: usize, p: u8, q: u8) -> usize
 
 // Whether the n bytes at b are the whole name that stands at a.
 fn stands_at(s: &[u8], a: usize, b: usize, n: usize) -> bool
-    requires { ⌜ (a < b) × (b + n ≤ length (now s)) ⌝ }
+    requires { ⌜ (a < b) × (0 < n) × (b + n ≤ length (now s)) ⌝ }
     ensures { λ r. ⌜ r ≡ not (nameByte (getD (now (s .entry)) (a + n) 0)) && same (take n (drop a (now (s .entry)))) (take n (drop b (now (s .entry)))) ⌝ }
 {
+    if s[a] != s[b] {
+        return false;
+    }
     if scan::is_name_byte(s[a + n]) {
         return false;
     }
     alike(s, a, b, n)
 }
 
-// Whether the name from `at` up to `to` is one of those of the attributes that stand from `first` on. They are known to be right: a value ends at the
-// next quote like its first.
+// Whether the name from `at` up to `to` is one of those of the attributes that stand from `first` on. They are known to be right: a name ends before
+// the next `=`, and a value at the next quote like its first.
 fn again(s: &[u8], first: usize, at: usize, to: usize) -> bool
     requires { ⌜ Stood (now s) first at × (at < to) × (to ≤ length (now s)) × Named (now s) at (to - at) ⌝ }
     ensures { λ r. ⌜ Repeats (now (s .entry)) first at to r ⌝ }
@@ -167,10 +197,10 @@ fn again(s: &[u8], first: usize, at: usize, to: usize) -> bool
         if stands_at(s, j, at, to - at) {
             return true;
         }
-        let a = next_of(s, j, at, b'"', b'\'');
-        let q = s[a];
-        let e = next_of(s, a + 1, at, q, q);
-        i = e + 1;
+        let e = next_equals(s, j, at);
+        let a = scan::skip_glue(s, e + 1);
+        let f = next_quote(s, a + 1, at, s[a]);
+        i = f + 1;
     }
 }
 

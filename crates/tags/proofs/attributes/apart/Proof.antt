@@ -1,4 +1,4 @@
--- The joined tests as a number.
+-- A test as a number.
 use Rattle.tags.proofs.ValueLaws.{test-number}
 use Rattle.tags.proofs.CompareLaws.{apart-test}
 use borrow.Author.Needs.{needs}
@@ -9,7 +9,7 @@ cast-result : tie.Need-cast-result
 cast-result c = search needs
 
 returns : tie.Need-returns
-returns c = test-number _ _ (apart-test _ _ _)
+returns c = test-number _ _ (apart-test _ _)
 
 pub apart-spec : {M : Type 1} → statement M
 apart-spec = tie.close (tie.spec cast-result returns)

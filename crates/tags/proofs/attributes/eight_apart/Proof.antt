@@ -98,7 +98,7 @@ add-n-7 : tie.Need-add-n-7
 add-n-7 c = search needs
 
 returns : tie.Need-returns
-returns c = eight-sum (λ (x : ℕ). (getD (c .before .before .before .before .before .before .before .before .before .before .before .before .before .before .before .before .before .args .s .now) x 0 ≡ c .before .before .before .before .before .before .before .before .before .before .before .before .before .before .before .before .before .args .p → ⊥) × (getD (c .before .before .before .before .before .before .before .before .before .before .before .before .before .before .before .before .before .args .s .now) x 0 ≡ c .before .before .before .before .before .before .before .before .before .before .before .before .before .before .before .before .before .args .q → ⊥)) (c .before .before .before .before .before .before .before .before .before .before .before .before .before .before .before .before .before .args .i) _ _ _ _ _ _ _ _ (c .before .before .before .before .before .before .before .before .before .before .before .before .before .before .apart .ensures) (c .before .before .before .before .before .before .before .before .before .before .before .before .apart2 .ensures) (c .before .before .before .before .before .before .before .before .before .before .apart3 .ensures) (c .before .before .before .before .before .before .before .before .apart4 .ensures) (c .before .before .before .before .before .before .apart5 .ensures) (c .before .before .before .before .apart6 .ensures) (c .before .before .apart7 .ensures) (c .apart8 .ensures)
+returns c = eight-sum (λ (x : ℕ). getD (c .before .before .before .before .before .before .before .before .before .before .before .before .before .before .before .before .before .args .s .now) x 0 ≡ c .before .before .before .before .before .before .before .before .before .before .before .before .before .before .before .before .before .args .q → ⊥) (c .before .before .before .before .before .before .before .before .before .before .before .before .before .before .before .before .before .args .i) _ _ _ _ _ _ _ _ (c .before .before .before .before .before .before .before .before .before .before .before .before .before .before .apart .ensures) (c .before .before .before .before .before .before .before .before .before .before .before .before .apart2 .ensures) (c .before .before .before .before .before .before .before .before .before .before .apart3 .ensures) (c .before .before .before .before .before .before .before .before .apart4 .ensures) (c .before .before .before .before .before .before .apart5 .ensures) (c .before .before .before .before .apart6 .ensures) (c .before .before .apart7 .ensures) (c .apart8 .ensures)
 
 pub eight-apart-spec : {M : Type 1} → statement M
 eight-apart-spec =

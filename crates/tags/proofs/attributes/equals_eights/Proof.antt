@@ -1,17 +1,17 @@
--- The invariant: none of the bytes so far is one of the two.
+-- The invariant: none of the bytes so far is the one that is looked for.
 use Prim.Native.Nat.{_-_, _≤_}
 use native.Mathlib.Omega.{arith}
 use borrow.Author.Tests.{not-false}
 use Rattle.tags.specs.Names.{Lacks}
 use Rattle.tags.proofs.CompareLaws.{lacks-more}
-use Rattle.tags.proofs.attributes.apart_eights.Statement.{statement}
-use Rattle.tags.proofs.attributes.apart_eights.Tie as tie
+use Rattle.tags.proofs.attributes.equals_eights.Statement.{statement}
+use Rattle.tags.proofs.attributes.equals_eights.Tie as tie
 
 abbrev Inv-loop : tie.InvT-loop
-Inv-loop s at stop p q i₀ i = (at ≤ i) × (i ≤ stop) × Lacks p q s at (i - at)
+Inv-loop s at stop i₀ i = (at ≤ i) × (i ≤ stop) × Lacks 61 s at (i - at)
 
 abbrev μ-loop : tie.MeasureT-loop
-μ-loop s at stop p q i₀ i = stop - i
+μ-loop s at stop i₀ i = stop - i
 
 loop-holds : tie.Need-loop-holds Inv-loop μ-loop
 loop-holds c = (omega arith, c .before .pre .0, λ j l. absurd (omega arith))
@@ -37,8 +37,8 @@ loop-again c = (omega arith, omega arith, lacks-more (c .before .before .before 
 returns-2 : tie.Need-returns-2 Inv-loop μ-loop
 returns-2 c = c .before .loop .inv
 
-pub apart-eights-spec : {M : Type 1} → statement M
-apart-eights-spec =
+pub equals-eights-spec : {M : Type 1} → statement M
+equals-eights-spec =
     tie.close
     (tie.spec
     Inv-loop
