@@ -8,3 +8,4 @@ pub mod Theorems
 pub mod Picks
 pub mod Cases
 pub mod CodeLaws
+pub mod AheadLaws

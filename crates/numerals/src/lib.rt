@@ -1,4 +1,5 @@
 // Ints and positive numbers, read by one scan: a state by value with a step for a byte, so that a caller can feed bytes that stand nowhere in a row.
+mod ahead;
 pub mod byte;
 pub mod ends;
 pub mod positive;

@@ -13,7 +13,7 @@ use crate::tens::TOP;
 use crate::tens::far;
 
 /// Below this one digit more stays below the top.
-const TENTH: u64 = 1000000000000;
+pub const TENTH: u64 = 1000000000000;
 
 /// Below this one digit more of an exponent stays below its bound.
 const NEAR: u64 = 1000000000000000000;
@@ -253,17 +253,4 @@ impl Scan {
         }
         Scan { ends, body }
     }
-}
-
-/// The scan after the bytes.
-pub fn scanned(v: &[u8]) -> Scan
-    ensures { λ r. ⌜ r ≡ run step start (now (v .entry)) ⌝ }
-{
-    let mut s = Scan::start();
-    let mut i = 0;
-    while i < v.len() {
-        s = s.step(v[i]);
-        i += 1;
-    }
-    s
 }

@@ -2,10 +2,10 @@
 ghost use mathlib.Core.Path.{_≡_};
 ghost use Rattle.number.specs.Whole.{intOf, capped, paper};
 ghost use Rattle.numerals.specs.Scan.{sizedAs, intBodyEnd, intEnd};
+use crate::ahead::scanned;
 use crate::scan::Body;
 use crate::scan::Digits;
 use crate::scan::Scan;
-use crate::scan::scanned;
 use crate::tens::shifted;
 use number::WholeRead;
 

@@ -1,7 +1,6 @@
 -- What a text is written as: byte by byte, no more than six times as long, and read back in double quotes.
 use mathlib.Core.Path.{_≡_, refl, sym, ap, subst, _∙_}
 use mathlib.Core.List.{List, [], _∷_, _++_, append-nil, append-assoc}
-use mathlib.Core.Logic.{inl, inr}
 use mathlib.Core.Bool.{Bool, true, false, cond}
 use Prim.Native.Nat.{ℕ, _+_, _*_, _≤_, _<_}
 use Prim.Native.Char.{code}
@@ -10,7 +9,6 @@ use native.Mathlib.Omega.{arith}
 use lib.Dec.{eqb, leb}
 use lib.ListN.{length, take, drop, getD, length-append, take-append-drop}
 use lib.Seq.{take-suc}
-use types.Run.{OneOf}
 use borrow.Author.Tests.{leb-true, ne-eqb}
 use Rattle.exact.specs.Byte.{eqb-true}
 use Rattle.grammar.specs.Bytes.{Bytes, text, within, digit, every}
@@ -99,10 +97,6 @@ Unnamed (k ∷ ks) b = Unnamed ks b × (b ≡ k → ⊥)
 
 pub unnamed-same : (b : ℕ) → Unnamed (13 ∷ 10 ∷ 9 ∷ 34 ∷ 62 ∷ 60 ∷ 38 ∷ []) b → escapeByte b ≡ b ∷ []
 unnamed-same b n = none-same b (n .0 .0 .0 .0 .0 .0 .1) (n .0 .0 .0 .0 .0 .1) (n .0 .0 .0 .0 .1) (n .0 .0 .0 .1) (n .0 .0 .1) (n .0 .1) (n .1)
-
-pub unlisted-same : (b : ℕ) → (OneOf (13 ∷ 34 ∷ 38 ∷ 60 ∷ 62 ∷ []) b → ⊥) → (b ≡ 9 → ⊥) → (b ≡ 10 → ⊥) → escapeByte b ≡ b ∷ []
-unlisted-same b n t f =
-    none-same b (λ e. n (inr (inr (inl e)))) (λ e. n (inr (inr (inr (inl e))))) (λ e. n (inr (inr (inr (inr e))))) (λ e. n (inr (inl e))) t f (λ e. n (inl e))
 
 -- a byte becomes a reference that names it, or stays
 data Becomes (b : ℕ) : Type 0 where

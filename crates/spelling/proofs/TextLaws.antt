@@ -1,14 +1,15 @@
 -- Bytes that are a text, read character by character.
-use mathlib.Core.Path.{_≡_, refl, sym, ap, _∙_}
+use mathlib.Core.Path.{_≡_, refl, sym, ap, subst, _∙_}
 use mathlib.Core.List.{List, [], _∷_, _++_}
 use mathlib.Core.Logic.{⊎-elim}
-use mathlib.Core.Bool.{true, false}
-use Prim.Native.Nat.{ℕ, _+_, _≤_, _<_}
+use mathlib.Core.Bool.{true, false, _&&_, not}
+use Prim.Native.Nat.{ℕ, zero, suc, _+_, _≤_, _<_}
 use native.Mathlib.Numerals.{add-one}
 use native.Mathlib.Omega.{arith}
 use lib.ListN.{length, drop, getD, length-drop, drop-of-length-le}
 use lib.Seq.{drop-cons}
-use borrow.Author.Tests.{le-leb, lt-leb}
+use lib.Dec.{leb}
+use borrow.Author.Tests.{leb-true, le-leb, lt-leb}
 use Rattle.exact.specs.Exact.{done, Exact, sound, done≢more, done≢bad}
 use Rattle.exact.specs.Chain.{clash}
 use Rattle.grammar.specs.Bytes.{Bytes, within, every}
@@ -17,10 +18,11 @@ use Rattle.grammar.specs.Value.{banned}
 use Rattle.model.specs.Characters.{IsRaw, plainByte, charP, char-exact}
 use Rattle.model.specs.Tests.{and-left, and-right, and-both}
 use Rattle.tags.specs.Says.{Known, Says}
+use Rattle.tags.specs.Parts.{Plain}
 use Rattle.tags.proofs.Answers.{Fails, moved}
 use Rattle.tags.specs.declared.Piece.{Piece}
 use Rattle.tags.specs.declared.Piece.the-variants.{Got, Open, Bad}
-use Rattle.spelling.specs.Characters.{spell, IsText, TextSays, noBan}
+use Rattle.spelling.specs.Characters.{spell, IsText, TextSays, Along, Passes, noBan}
 
 pub character-exact : Exact (IsRaw noBan) (charP noBan)
 unfolding plainByte isChar within
@@ -39,12 +41,6 @@ module _ (s : Bytes) (at : ℕ) (h : at < length s) where
   pub not-ascii : getD s at 0 ≤ 127 → isChar (getD s at 0) ≡ false → Says (λ (c : ℕ). c) 1 s at (Bad at) (charP noBan (drop at s))
   unfolding charP plainByte
   not-ascii k e = record { says = record { from = omega arith; inside = h; reads = rw (drop-cons s at 0 h, le-leb (getD s at 0) 127 k, e) } }
-
--- v is a text if and only if what is left of it at i is one
-pub record Along (v : Bytes) (i : ℕ) : Type 0 where
-  pub upto : i ≤ length v
-  pub to : IsText v → IsText (drop i v)
-  pub from : IsText (drop i v) → IsText v
 
 pub along-start : (v : Bytes) → Along v 0
 along-start v = record { upto = omega arith; to = λ t. t; from = λ t. t }
@@ -78,6 +74,27 @@ along-next {v} {i} {c} {e} a h k = record { upto = k .upto; to = λ t. on (a .to
           good = and-both (isChar (k .value)) (every isChar (t .chars)) (r .char) (t .good);
           spelt = q ∙ ap (λ (x : Bytes). x ++ drop e v) (r .spelt) ∙ ap (λ (x : Bytes). utf8 (k .value) ++ x) (t .spelt);
         }
+
+-- a printable character of ASCII
+along-ascii : {v : Bytes} {i : ℕ} → Along v i → i < length v → plainByte (banned 60) (getD v i 0) ≡ true → Along v (i + 1)
+unfolding plainByte
+along-ascii {v} {i} a h p =
+    let b : ℕ = getD v i 0 in
+    let low = leb-true b 127 (and-left (leb b 127) (isChar b && not (banned 60 b)) p) in
+    let char = and-left (isChar b) (not (banned 60 b)) (and-right (leb b 127) (isChar b && not (banned 60 b)) p) in
+    along-next a h (in-ascii v i h low char .says)
+
+pub passes-none : (v : Bytes) (i : ℕ) → i ≤ length v → Passes v i i
+passes-none v i h = record { from = omega arith; upto = h; along = λ a. a }
+
+-- n of them
+pub passes-on : {v : Bytes} {i : ℕ} (n j : ℕ) → Passes v i j → j + n ≤ length v → Plain 60 v j n → Passes v i (j + n)
+passes-on {v} {i} zero j a h p = subst (λ (x : ℕ). Passes v i x) (omega arith) a
+passes-on {v} {i} (suc n) j a h p =
+    let z : j + 0 ≡ j = omega arith in
+    let f : plainByte (banned 60) (getD v j 0) ≡ true = rw z at (p 0 (omega arith)) in
+    let b : Passes v i (j + 1) = record { from = omega (arith, a .from); upto = omega arith; along = λ x. along-ascii (a .along x) (omega arith) f } in
+    subst (λ (x : ℕ). Passes v i x) (omega arith) (passes-on n (j + 1) b (omega arith) (λ k l. let e : j + suc k ≡ j + 1 + k = omega arith in rw e at (p (suc k) (omega arith))))
 
 pub along-end : {v : Bytes} {i : ℕ} → Along v i → length v ≤ i → TextSays v true
 along-end {v} {i} a h = record { sound = λ e. a .from (record { chars = []; good = refl; spelt = drop-of-length-le v h }); complete = λ t. refl }

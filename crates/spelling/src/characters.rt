@@ -1,10 +1,11 @@
 // Which bytes are a text.
-ghost use Prim.Native.Nat.{ℕ, _<_};
+ghost use Prim.Native.Nat.{ℕ, _≤_, _<_};
 ghost use lib.ListN.{length, drop};
 ghost use Rattle.model.specs.Characters.{charP};
 ghost use Rattle.tags.specs.Says.{Says};
-ghost use Rattle.spelling.specs.Characters.{TextSays, noBan};
+ghost use Rattle.spelling.specs.Characters.{TextSays, Passes, noBan};
 use tags::Piece;
+use tags::values::eight_clear;
 
 // The character at `at`, and the next place.
 fn character(s: &[u8], at: usize) -> Piece
@@ -22,13 +23,32 @@ fn character(s: &[u8], at: usize) -> Piece
     Piece::Bad(at)
 }
 
+// Where fewer than eight printable characters of ASCII stand in a row: one branch for eight bytes.
+fn ascii_eights(v: &[u8], at: usize) -> usize
+    requires { ⌜ at ≤ length (now v) ⌝ }
+    ensures { λ r. ⌜ Passes (now (v .entry)) at r ⌝ }
+{
+    let mut i = at;
+    while 8 <= v.len() - i {
+        if !eight_clear(v, i, b'<') {
+            return i;
+        }
+        i += 8;
+    }
+    i
+}
+
 /// Whether v is UTF-8 of the characters that may stand in a message.
 pub fn is_text(v: &[u8]) -> bool
     ensures { λ r. ⌜ TextSays (now (v .entry)) r ⌝ }
 {
     let mut i = 0;
     while i < v.len() {
-        let p = character(v, i);
+        let j = ascii_eights(v, i);
+        if v.len() <= j {
+            return true;
+        }
+        let p = character(v, j);
         let Piece::Got(_, e) = p else {
             return false;
         };

@@ -1,53 +1,20 @@
--- `is_guid` is the definition on every slice: the rest of the bytes must fill the rest of the places.
-use native.Mathlib.Omega.{arith}
-use borrow.Author.Tests.{not-true, not-false}
-use Prim.Native.Nat.{_-_}
-use lib.ListN.{length}
-use Rattle.shapes.proofs.GuidLaws.{Stands, stands-none, stands-more, stands-not, stands-end}
+-- What its places do not show at once is shown byte by byte.
+use mathlib.Core.Path.{sym}
+use borrow.Author.Needs.{needs}
 use Rattle.shapes.proofs.guid.is_guid.Statement.{statement}
 use Rattle.shapes.proofs.guid.is_guid.Tie as tie
 
-abbrev Inv-loop : tie.InvT-loop
-Inv-loop v i₀ i = Stands v i
+is-placed-requires : tie.Need-is-placed-requires
+is-placed-requires c κs = search needs
 
-abbrev μ-loop : tie.MeasureT-loop
-μ-loop v i₀ i = length v - i
+returns : tie.Need-returns
+returns c = sym (c .before .is-placed .ensures (c .if1 .taken))
 
-loop-holds : tie.Need-loop-holds Inv-loop μ-loop
-loop-holds c = stands-none _
+is-filled-requires : tie.Need-is-filled-requires
+is-filled-requires c κs = search needs
 
-shared-slice-read-may-stand : tie.Need-shared-slice-read-may-stand Inv-loop μ-loop
-shared-slice-read-may-stand c = omega arith
-
-may-stand-requires : tie.Need-may-stand-requires Inv-loop μ-loop
-may-stand-requires c κs = tt
-
-returns : tie.Need-returns Inv-loop μ-loop
-returns c = stands-not _ (c .before .before .before .before .loop .inv) (c .before .before .before .loop-test .taken) (c .before .may-stand .ensures) (not-true _ (c .if1 .taken))
-
-add-i : tie.Need-add-i Inv-loop μ-loop
-add-i c = omega arith
-
-loop-less : tie.Need-loop-less Inv-loop μ-loop
-loop-less c = omega arith
-
-loop-again : tie.Need-loop-again Inv-loop μ-loop
-loop-again c = stands-more _ (c .before .before .before .before .loop .inv) (c .before .before .before .loop-test .taken) (c .before .may-stand .ensures) (not-false _ (c .if1 .left))
-
-returns-2 : tie.Need-returns-2 Inv-loop μ-loop
-returns-2 c = stands-end _ (c .before .loop .inv) (c .loop-test .left)
+returns-2 : tie.Need-returns-2
+returns-2 c = c .is-filled .ensures
 
 pub is-guid-spec : {M : Type 1} → statement M
-is-guid-spec =
-    tie.close
-    (tie.spec
-    Inv-loop
-    μ-loop
-    loop-holds
-    shared-slice-read-may-stand
-    may-stand-requires
-    returns
-    add-i
-    loop-less
-    loop-again
-    returns-2)
+is-guid-spec = tie.close (tie.spec is-placed-requires returns is-filled-requires returns-2)

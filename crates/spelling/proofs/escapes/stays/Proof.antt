@@ -1,22 +1,15 @@
--- A byte of no key and outside the range of tab and LF is none of the seven.
-use mathlib.Core.Path.{sym}
-use native.Mathlib.Omega.{arith}
-use Rattle.exact.specs.Chain.{clash}
-use Rattle.spelling.proofs.EscapeLaws.{unlisted-same}
+-- The joined tests are one law, and their number another.
+use Rattle.tags.proofs.ValueLaws.{test-number}
+use Rattle.spelling.proofs.RunLaws.{test-same}
+use borrow.Author.Needs.{needs}
 use Rattle.spelling.proofs.escapes.stays.Statement.{statement}
 use Rattle.spelling.proofs.escapes.stays.Tie as tie
 
+cast-result : tie.Need-cast-result
+cast-result c = search needs
+
 returns : tie.Need-returns
-returns c = λ e. unlisted-same _ (c .before .match .rest .1) (λ h. omega arith) (λ h. omega arith)
-
-returns-2 : tie.Need-returns-2
-returns-2 c = λ e. unlisted-same _ (c .before .before .match .rest .1) (λ h. omega arith) (λ h. omega arith)
-
-returns-3 : tie.Need-returns-3
-returns-3 c = λ e. clash (sym e)
-
-returns-4 : tie.Need-returns-4
-returns-4 c = λ e. clash (sym e)
+returns c = test-number _ _ (test-same _)
 
 pub stays-spec : {M : Type 1} → statement M
-stays-spec = tie.close (tie.spec returns returns-2 returns-3 returns-4)
+stays-spec = tie.close (tie.spec cast-result returns)

@@ -4,21 +4,18 @@ use mathlib.Core.Path.{refl}
 use Prim.Native.Nat.{_-_}
 use lib.ListN.{length}
 use Rattle.numerals.specs.Scan.{start}
-use Rattle.numerals.proofs.CodeLaws.{Passed, passed-none, passed-more, passed-all}
-use Rattle.numerals.proofs.scan.scanned.Statement.{statement}
-use Rattle.numerals.proofs.scan.scanned.Tie as tie
+use Rattle.numerals.proofs.CodeLaws.{Passed, passed-more, passed-all}
+use Rattle.numerals.proofs.ahead.stepped.Statement.{statement}
+use Rattle.numerals.proofs.ahead.stepped.Tie as tie
 
 abbrev Inv-loop : tie.InvT-loop
-Inv-loop v s₀ i₀ s i = Passed start v i s
+Inv-loop v at s₀ i₀ s i = Passed start v i s
 
 abbrev μ-loop : tie.MeasureT-loop
-μ-loop v s₀ i₀ s i = length v - i
-
-start-requires : tie.Need-start-requires Inv-loop μ-loop
-start-requires c κs = tt
+μ-loop v at s₀ i₀ s i = length v - i
 
 loop-holds : tie.Need-loop-holds Inv-loop μ-loop
-loop-holds c = passed-none start _ (c .start .ensures)
+loop-holds c = record { upto = c .before .pre .0; is = c .before .pre .1 }
 
 shared-slice-read-step : tie.Need-shared-slice-read-step Inv-loop μ-loop
 shared-slice-read-step c = omega arith
@@ -38,17 +35,5 @@ loop-again c = passed-more start _ (c .before .before .before .loop .inv) (c .be
 returns : tie.Need-returns Inv-loop μ-loop
 returns c = passed-all start _ (c .before .loop .inv) (c .loop-test .left)
 
-pub scanned-spec : {M : Type 1} → statement M
-scanned-spec =
-    tie.close
-    (tie.spec
-    Inv-loop
-    μ-loop
-    start-requires
-    loop-holds
-    shared-slice-read-step
-    step-requires
-    add-i
-    loop-less
-    loop-again
-    returns)
+pub stepped-spec : {M : Type 1} → statement M
+stepped-spec = tie.close (tie.spec Inv-loop μ-loop loop-holds shared-slice-read-step step-requires add-i loop-less loop-again returns)
