@@ -4,6 +4,7 @@ ghost use Prim.Native.Nat.{_+_, _≤_, _<_};
 ghost use Rattle.printing.specs.Put.{Countable, Wrote};
 ghost use Rattle.rows.specs.Coding.{numbers as coding, names as letters, rowOf, rowsFrom, ROWS as MANY, LINES, WIDTH, MOST};
 ghost use Rattle.writes.specs.Rows.{formValue, rowBytes, attributesFrom};
+use crate::marks::put_given;
 use crate::texts::part;
 use cells::cell;
 use printing::put;
@@ -64,7 +65,7 @@ fn put_attribute(
     let name = name_at(names, row.line as usize, row.len as usize);
     let c = put_byte(out, at, b' ');
     let d = put(out, c, name);
-    let e = put(out, d, b"=\"");
+    let e = put_given(out, d);
     let f = put_value(out, e, row, a, b, id, texts);
     put_byte(out, f, b'"')
 }

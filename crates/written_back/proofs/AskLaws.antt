@@ -24,12 +24,12 @@ use Rattle.value.specs.declared.text.Words.the-variants.{Present}
 use Rattle.value.specs.declared.text.TextAt.{TextAt}
 use Rattle.value.specs.declared.text.TextAt.the-variants.{InMessage, InScratch}
 use Rattle.meant.specs.Written.{writtenOf}
-use Rattle.writes.specs.Writes.{refusedBy, Writes}
+use Rattle.writes.specs.Writes.{refusedBy}
 use Rattle.writes.specs.declared.messages.Written.{Written}
 use Rattle.written_back.specs.First.{First}
+use Rattle.written_back.specs.Framed.{bareReply, SameReply}
 use Rattle.written_back.specs.Replies.{sameOf, bareOf, Reply, same-id, no-id, Replies, replied, too-long, outside as lies-outside, no-text}
-use Rattle.written_back.proofs.ReadLaws.{read-is-text}
-use Rattle.written_back.proofs.ReplyLaws.{written-too-long, bare-first, same-first, same-too-long}
+use Rattle.written_back.proofs.ReplyLaws.{bare-bytes, same-bytes}
 
 -- what is known of the Id by the number that was said of it
 module _ {s : Bytes} {w : Words} {room scratch : Bytes} (at : TextAt) {k : ℕ} (says : TextSays s w room scratch (paper at)) (said : k ≡ refusalOf at) where
@@ -41,7 +41,7 @@ module _ {s : Bytes} {w : Words} {room scratch : Bytes} (at : TextAt) {k : ℕ} 
   no-number m e h f = absurd (f (sym (number-of e) ∙ h))
 
   -- 4
-  pub says-absent : {old new : Bytes} {r : Written} → k ≡ 4 → Writes bareOf [] old new r → Replies s w old new r
+  pub says-absent : {old new : Bytes} {r : Written} → k ≡ 4 → First bareReply old new r → Replies s w old new r
   says-absent {old} {new} {r} h x = go says
     where
       not-four : {X : Type 0} {t : Told} → paper at ≡ t → t .number ≡ 0 → X
@@ -54,7 +54,7 @@ module _ {s : Bytes} {w : Words} {room scratch : Bytes} (at : TextAt) {k : ℕ} 
       there-not (decoded v t a l e f) = not-four e refl
 
       go : TextSays s w room scratch (paper at) → Replies s w old new r
-      go (absent e f g) = replied (writtenOf bareOf []) (no-id e refl) (bare-first x)
+      go (absent e f g) = replied (writtenOf bareOf []) (no-id e refl) (subst (λ (b : Bytes). First b old new r) bare-bytes x)
       go (outside p e l f g) = no-number 6 f h (λ z. omega arith)
       go (there p e l a) = there-not a
 
@@ -96,14 +96,16 @@ module _ {s : Bytes} {w : Words} {room scratch : Bytes} (at : TextAt) {k : ℕ} 
 
   -- 0: the part that was handed out is the text
   module _ (a b : ℕ × ℕ) {part : RefT (List ℕ)} (lies : Lies (partAt a s b scratch at) part) where
-    with-text : {old new : Bytes} {r : Written} (p : Span) → w ≡ Present p → p .start + p .len ≤ length s → (v : Bytes) → Text (take (p .len) (drop (p .start) s)) v → now part ≡ v → Writes (sameOf (length (now part))) (now part) old new r → Replies s w old new r
-    with-text {old} {new} {r} p e l v t q x = by (subst (λ (y : Bytes). Writes (sameOf (length y)) y old new r) q x) (leb (length v) 80) refl
+    with-text : {old new : Bytes} {r : Written} (p : Span) → w ≡ Present p → p .start + p .len ≤ length s → (v : Bytes) → Text (take (p .len) (drop (p .start) s)) v → now part ≡ v → SameReply (now part) old new r → Replies s w old new r
+    with-text {old} {new} {r} p e l v t q x = by (subst (λ (y : Bytes). SameReply y old new r) q x) (leb (length v) 80) refl
       where
-        by : Writes (sameOf (length v)) v old new r → (z : Bool) → leb (length v) 80 ≡ z → Replies s w old new r
-        by x true f = replied (writtenOf (sameOf (length v)) v) (same-id p e l v t (leb-true (length v) 80 f) refl) (same-first v (read-is-text t) (leb-true (length v) 80 f) x)
-        by x false f = let y = written-too-long {m = sameOf (length v)} (same-too-long v (leb-false (length v) 80 f)) x in too-long p e l v t (leb-false (length v) 80 f) (y .0) (y .1)
+        by : SameReply v old new r → (z : Bool) → leb (length v) 80 ≡ z → Replies s w old new r
+        by x true f =
+            let h = leb-true (length v) 80 f in
+            replied (writtenOf (sameOf (length v)) v) (same-id p e l v t h refl) (subst (λ (b : Bytes). First b old new r) (same-bytes v) (x .short h))
+        by x false f = let h = leb-false (length v) 80 f in let y = x .long h in too-long p e l v t h (y .0) (y .1)
 
-    pub says-text : {old new : Bytes} {r : Written} → k ≡ 0 → Writes (sameOf (length (now part))) (now part) old new r → Replies s w old new r
+    pub says-text : {old new : Bytes} {r : Written} → k ≡ 0 → SameReply (now part) old new r → Replies s w old new r
     says-text {old} {new} {r} h x = go says
       where
         of : (p : Span) → w ≡ Present p → p .start + p .len ≤ length s → Answer (take (p .len) (drop (p .start) s)) p room scratch (paper at) → Replies s w old new r

@@ -31,6 +31,7 @@ descriptions = text "malformed message message too long  missing attribute text 
 
 pub record Described (n start len : ℕ) : Type 0 where
   pub inside : start + len ≤ 108
+  pub short : len ≤ 80
   pub is : take (start + len - start) (drop start descriptions) ≡ description n
 
 -- "A received CheckAlive of Type 1 is replied to with Type 2 and the same Id": of n bytes, which are the texts

@@ -1,26 +1,34 @@
 // The reply to a CheckAlive of Type 1.
-ghost use lib.ListN.{length};
-ghost use mathlib.Core.List.{[]};
-ghost use Rattle.writes.specs.Writes.{Writes};
-ghost use Rattle.written_back.specs.Replies.{bareOf, sameOf, Replies};
-use lane::Kind;
+ghost use Rattle.written_back.specs.First.{First};
+ghost use Rattle.written_back.specs.Replies.{Replies};
+ghost use Rattle.written_back.specs.Framed.{bareReply, SameReply};
+use crate::framed::framed;
 use value::Words;
 use writes::Written;
 
 // Without an Id.
 fn reply_bare(out: &mut [u8]) -> Written
-    ensures { λ r. ⌜ Writes bareOf [] (now (out .entry)) (now (out .exit)) r ⌝ }
+    ensures { λ r. ⌜ First bareReply (now (out .entry)) (now (out .exit)) r ⌝ }
 {
-    let cells = [1u64, 2, 0, 0, 0, 0];
-    writes::write_cells(Kind::CHECK_ALIVE, &cells, b"", b"", out)
+    framed(b"<Hermes><CheckAlive Type=\"2\"", b"", b"/></Hermes>", out)
 }
 
-// With the Id v.
+// With the Id v; 5 if that is longer than 80 bytes.
 fn reply_with(v: &[u8], out: &mut [u8]) -> Written
-    ensures { λ r. ⌜ Writes (sameOf (length (now (v .entry)))) (now (v .entry)) (now (out .entry)) (now (out .exit)) r ⌝ }
+    ensures { λ r. ⌜ SameReply (now (v .entry)) (now (out .entry)) (now (out .exit)) r ⌝ }
 {
-    let cells = [1u64, 2, 0, 1, 0, v.len() as u64];
-    writes::write_cells(Kind::CHECK_ALIVE, &cells, b"", v, out)
+    if 80 < v.len() {
+        return Written {
+            refusal: 5,
+            count: 0,
+        };
+    }
+    framed(
+        b"<Hermes><CheckAlive Type=\"2\" Id=\"",
+        v,
+        b"\"/></Hermes>",
+        out,
+    )
 }
 
 /// The reply to a CheckAlive, first in the buffer: Type 2 and the same Id, which is the value `id` of the message s. 5 if it reads as more

@@ -1,12 +1,11 @@
 // The Notifications that are sent before a connection ends.
-ghost use mathlib.Core.Path.{_≡_};
-ghost use Prim.Native.Nat.{_+_, _≤_};
-ghost use lib.ListN.{length, take, drop};
-ghost use Rattle.writes.specs.Writes.{Writes};
+ghost use Prim.Native.Nat.{_≤_};
+ghost use lib.ListN.{length};
 ghost use Rattle.meant.specs.Notices.{notice};
 ghost use Rattle.written_back.specs.First.{First};
-ghost use Rattle.written_back.specs.Replies.{noticeOf, Described};
-use lane::Kind;
+ghost use Rattle.written_back.specs.Replies.{Described};
+ghost use Rattle.written_back.specs.Framed.{described};
+use crate::framed::framed;
 use value::Span;
 use writes::Written;
 
@@ -36,10 +35,15 @@ fn described(refusal: u8) -> Span
 
 // The Notification with a description.
 fn describe(d: &[u8], out: &mut [u8]) -> Written
-    ensures { λ r. ⌜ Writes (noticeOf (length (now (d .entry)))) (now (d .entry)) (now (out .entry)) (now (out .exit)) r ⌝ }
+    requires { ⌜ length (now d) ≤ 80 ⌝ }
+    ensures { λ r. ⌜ First (described (now (d .entry))) (now (out .entry)) (now (out .exit)) r ⌝ }
 {
-    let cells = [1u64, 1, 0, 1, 1, 0, 1, 0, d.len() as u64];
-    writes::write_cells(Kind::NOTIFICATION, &cells, b"", d, out)
+    framed(
+        b"<Hermes><Notification NotificationCode=\"1\" Severity=\"1\" Description=\"",
+        d,
+        b"\"/></Hermes>",
+        out,
+    )
 }
 
 /// The Notification of a refusal, first in the buffer: 2, 3, 4, 5, 6 or 9; another number's has no description.

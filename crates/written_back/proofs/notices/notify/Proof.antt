@@ -1,14 +1,10 @@
 -- The Notification with the description of its number.
 use mathlib.Core.Path.{sym}
 use native.Mathlib.Omega.{arith}
-use Rattle.written_back.proofs.ReplyLaws.{notified}
+use Rattle.written_back.proofs.ReplyLaws.{notified, part-short}
 use borrow.Author.Needs.{needs}
 use Rattle.written_back.proofs.notices.notify.Statement.{statement}
 use Rattle.written_back.proofs.notices.notify.Tie as tie
-use Rattle.written_back.proofs.notices.notify.Reads as reads
-use Rattle.written_back.proofs.notices.notify.Lts as lts
-use Rattle.written_back.proofs.notices.describe.Reads as describe-reads
-use Rattle.written_back.proofs.notices.described.Reads as described-reads
 
 described-requires : tie.Need-described-requires
 described-requires c κs = search needs
@@ -26,7 +22,7 @@ part-describe-end : tie.Need-part-describe-end
 part-describe-end c = let i = c .before .before .described .ensures .inside in omega arith
 
 describe-requires : tie.Need-describe-requires
-describe-requires c κs = search needs
+describe-requires c κs = part-short _ _ _ (c .before .before .before .before .described .ensures .short)
 
 same-length : tie.Need-same-length
 same-length c = search needs
