@@ -1,20 +1,21 @@
-// Times reading and checking: this library's calls, and the XML parsers that users would take instead, on the same messages in one run.
-// The peers are given each message's bytes; this library finds the cut itself. Best of several rounds.
+// Reading and checking: this library's calls, and the XML parsers that users would take instead, on the same messages.
+// The peers are given each message's bytes; this library finds the cut itself.
 // For checking each peer's handler tries the attributes of a BoardAvailable and keeps their values; all must come to the same sum.
 #include <expat.h>
 #include <libxml/parser.h>
 #include <pugixml.hpp>
 #include <rapidxml/rapidxml.hpp>
 
-#include <chrono>
 #include <cstdint>
 #include <cstdio>
 #include <cstring>
 #include <functional>
+#include <memory>
 #include <string>
 #include <vector>
 
 #include "../include/tryphomel.h"
+#include "race.hpp"
 #include "values.hpp"
 
 namespace {
@@ -77,6 +78,16 @@ std::string comments(unsigned n) {
 std::string attributes32() {
     std::string s = "<Hermes><Foreign";
     for (int i = 0; i < 32; i++) s += " AttributeWithALongNameThatDiffersLate" + std::to_string(10 + i) + "=\"1\"";
+    return s + "/></Hermes>";
+}
+
+std::string alike_names() {
+    std::string s = "<Hermes><F";
+    for (int i = 0; i < 32; i++) {
+        std::string name(64, 'a');
+        name[32] = (char)('a' + i % 26), name[33] = (char)('a' + i / 26);
+        s += " " + name + "=\"\"";
+    }
     return s + "/></Hermes>";
 }
 
@@ -262,90 +273,65 @@ bool check_by_rapidxml(std::string &m, Sum &sum) {
     return true;
 }
 
-double seconds(const std::function<bool()> &f) {
-    double best = 1e9;
-    for (int round = 0; round < 7; round++) {
-        auto a = std::chrono::steady_clock::now();
-        if (!f()) return -1;
-        double t = std::chrono::duration<double>(std::chrono::steady_clock::now() - a).count();
-        if (t < best) best = t;
-    }
-    return best;
-}
-
 size_t size_of(const Stream &s) {
     size_t n = 0;
     for (auto &m : s) n += m.size();
     return n;
 }
 
-// Nanoseconds a byte.
-double ours(const Stream &s) {
+std::string joined(const Stream &s) {
     std::string run;
     for (auto &m : s) run += m;
-    return 1e9 / (double)run.size() * seconds([&] {
-               size_t at = 0, messages = 0;
-               while (at < run.size()) {
-                   uint64_t start, place;
-                   if (tryphomel_read((const uint8_t *)run.data() + at, run.size() - at, &start, &place) != 0) return false;
-                   at += place;
-                   messages++;
-               }
-               return messages == s.size();
-           });
+    return run;
 }
 
-double theirs(const Peer &p, Stream &s) {
-    return 1e9 / (double)size_of(s) * seconds([&] {
-               for (auto &m : s)
-                   if (!p.run(m)) return false;
-               return true;
-           });
+void read_work(std::vector<Work> &works, const char *title, const Stream &stream, const std::vector<Peer> &peers) {
+    auto s = std::make_shared<Stream>(stream);
+    auto run = std::make_shared<std::string>(joined(stream));
+    Work w{title, (double)s->size(), (double)size_of(*s), {}};
+    w.all.push_back({"tryphomel", [=]() -> uint64_t {
+                         size_t at = 0, messages = 0;
+                         while (at < run->size()) {
+                             uint64_t start, place;
+                             if (tryphomel_read((const uint8_t *)run->data() + at, run->size() - at, &start, &place) != 0) return 0;
+                             at += place;
+                             messages++;
+                         }
+                         return messages;
+                     }});
+    for (auto &p : peers)
+        w.all.push_back({p.name, [=]() -> uint64_t {
+                             for (auto &m : *s)
+                                 if (!p.run(m)) return 0;
+                             return s->size();
+                         }});
+    works.push_back(w);
 }
 
-void table(const char *title, Stream s, const std::vector<Peer> &peers) {
-    double t = ours(s);
-    printf("%s: %zu messages, %zu bytes each on average\n", title, s.size(), size_of(s) / s.size());
-    printf("  %-12s %7.3f ns a byte\n", "tryphomel", t);
-    for (auto &p : peers) {
-        double u = theirs(p, s);
-        printf("  %-12s %7.3f ns a byte; tryphomel has %.2f times its throughput\n", p.name, u, u / t);
-    }
-}
+uint64_t told(const Sum &sum) { return sum.accepted * 1000003 + sum.lengths * 31 + sum.failed; }
 
-// Nanoseconds a byte, with the values read.
-double ours_checked(const Stream &s, Sum &sum) {
-    std::string run;
-    for (auto &m : s) run += m;
-    return 1e9 / (double)run.size() * seconds([&] {
-               size_t at = 0;
-               sum = Sum();
-               while (at < run.size()) {
-                   tryphomel_checked c;
-                   if (tryphomel_message_check(run.data() + at, run.size() - at, &c) != TRYPHOMEL_ACCEPTED) return false;
-                   if (c.message.kind != TRYPHOMEL_BOARD_AVAILABLE) return false;
-                   sum.add(true, c.message.as.board.length.value, c.message.as.board.failed.value);
-                   at += c.end;
-               }
-               return sum.accepted == s.size();
-           });
-}
-
-void check_table(const char *title, Stream s, const std::vector<Checker> &peers) {
-    Sum sum;
-    double t = ours_checked(s, sum);
-    printf("%s, values read: %zu messages, %zu bytes each on average\n", title, s.size(), size_of(s) / s.size());
-    printf("  %-12s %7.3f ns a byte\n", "tryphomel", t);
-    for (auto &p : peers) {
-        Sum theirs;
-        double u = 1e9 / (double)size_of(s) * seconds([&] {
-                       theirs = Sum();
-                       for (auto &m : s)
-                           if (!p.run(m, theirs)) return false;
-                       return theirs == sum;
-                   });
-        printf("  %-12s %7.3f ns a byte; tryphomel has %.2f times its throughput%s\n", p.name, u, u / t, u < 0 ? " (NOT THE SAME VALUES)" : "");
-    }
+void check_work(std::vector<Work> &works, const char *title, const Stream &stream, const std::vector<Checker> &peers) {
+    auto s = std::make_shared<Stream>(stream);
+    auto run = std::make_shared<std::string>(joined(stream));
+    Work w{title, (double)s->size(), (double)size_of(*s), {}};
+    w.all.push_back({"tryphomel", [=]() -> uint64_t {
+                         Sum sum;
+                         for (size_t at = 0; at < run->size();) {
+                             tryphomel_checked c;
+                             if (tryphomel_message_check(run->data() + at, run->size() - at, &c) != TRYPHOMEL_ACCEPTED) return 0;
+                             sum.add(true, c.message.as.board.length.value, c.message.as.board.failed.value);
+                             at += c.end;
+                         }
+                         return told(sum);
+                     }});
+    for (auto &p : peers)
+        w.all.push_back({p.name, [=]() -> uint64_t {
+                             Sum sum;
+                             for (auto &m : *s)
+                                 if (!p.run(m, sum)) return 0;
+                             return told(sum);
+                         }});
+    works.push_back(w);
 }
 
 Stream many(unsigned n, const std::function<std::string()> &f) {
@@ -354,29 +340,24 @@ Stream many(unsigned n, const std::function<std::string()> &f) {
     return s;
 }
 
-// What a byte costs in a large message against a small one: 1 where the cost is linear.
-void growth(const char *title, std::string (*made)(unsigned), unsigned large, unsigned small) {
-    double s = ours(many(4000, [&] { return made(small); })), l = ours(many(40, [&] { return made(large); }));
-    printf("%s: cost a byte at %u against %u: %.2f\n", title, large, small, l / s);
-}
-
 }  // namespace
 
-int main() {
+// Works whose titles end in the same "a byte at" are held against each other: what a byte costs in a large message and in a small one.
+void reading_works(std::vector<Work> &works) {
     xmlInitParser();
-    std::vector<Peer> peers = {{"expat", by_expat}, {"libxml2 SAX", by_libxml2}, {"pugixml", by_pugixml}, {"rapidxml", by_rapidxml}};
-    Stream boards = many(4000, board_available);
-    table("BoardAvailable", boards, peers);
+    std::vector<Peer> peers = {{"pugixml", by_pugixml}, {"rapidxml", by_rapidxml}, {"expat", by_expat}, {"libxml2 SAX", by_libxml2}};
     std::vector<Checker> checkers = {
-        {"expat", check_by_expat}, {"libxml2 SAX", check_by_libxml2}, {"pugixml", check_by_pugixml}, {"rapidxml", check_by_rapidxml}};
-    check_table("BoardAvailable", boards, checkers);
-    table("CheckAlive", many(20000, [] { return std::string("<Hermes><CheckAlive Type=\"1\" Id=\"42\"/></Hermes>"); }), peers);
-    table("one value of 60,000 bytes", many(40, [] { return long_value(60000); }), peers);
-    table("10,000 siblings", many(40, [] { return siblings(10000); }), peers);
-    table("32 long attribute names", many(1000, attributes32), peers);
-    table("one text of 60,000 bytes", many(40, [] { return text_of(60000); }), peers);
-    table("8,000 comments", many(40, [] { return comments(8000); }), peers);
-    growth("one value", long_value, 60000, 600);
-    growth("one text", text_of, 60000, 600);
-    growth("comments", comments, 8000, 80);
+        {"pugixml", check_by_pugixml}, {"rapidxml", check_by_rapidxml}, {"expat", check_by_expat}, {"libxml2 SAX", check_by_libxml2}};
+    Stream boards = many(500, board_available);
+    read_work(works, "read a BoardAvailable", boards, peers);
+    check_work(works, "check a BoardAvailable, values read", boards, checkers);
+    read_work(works, "read a CheckAlive", many(2000, [] { return std::string("<Hermes><CheckAlive Type=\"1\" Id=\"42\"/></Hermes>"); }), peers);
+    read_work(works, "read 32 long names", many(100, attributes32), peers);
+    read_work(works, "read 32 names that are alike at their ends", many(100, alike_names), peers);
+    read_work(works, "read 10,000 siblings", many(4, [] { return siblings(10000); }), peers);
+    read_work(works, "read 8,000 comments", many(4, [] { return comments(8000); }), peers);
+    read_work(works, "one value, a byte at 60000", many(4, [] { return long_value(60000); }), peers);
+    read_work(works, "one value, a byte at 600", many(400, [] { return long_value(600); }), {});
+    read_work(works, "one text, a byte at 60000", many(4, [] { return text_of(60000); }), peers);
+    read_work(works, "one text, a byte at 600", many(400, [] { return text_of(600); }), {});
 }

@@ -1,15 +1,14 @@
-// Times receiving and sending: this library's calls from C, and a program that does the same by hand (plain.hpp) over expat or pugixml, in
-// one run. The peers are given each message's bytes; this library finds the cut itself. All must come to the same refusals, belt orders,
-// states and bytes. The best of many rounds, in which all take turns.
+// Receiving and sending: this library's calls from C, and a program that does the same by hand (plain.hpp) over expat or pugixml. The peers are given
+// each message's bytes; this library finds the cut itself. All must come to the same refusals, belt orders, states and bytes.
 #include <expat.h>
 #include <pugixml.hpp>
 
-#include <chrono>
 #include <functional>
 #include <vector>
 
 #include "../include/tryphomel.h"
 #include "plain.hpp"
+#include "race.hpp"
 
 namespace {
 
@@ -292,19 +291,13 @@ L lane_of(int side, int state) {
     return l;
 }
 
-// One round: its seconds for each item, and what it came to.
-struct Timed {
-    double spent;
-    uint64_t sum;
-};
-using Round = std::function<Timed()>;
+using Round = std::function<uint64_t()>;
 
 template <typename F>
-Timed timed(size_t items, F f) {
+uint64_t summed(F f) {
     Sum sum;
-    auto a = std::chrono::steady_clock::now();
     f(sum);
-    return {std::chrono::duration<double>(std::chrono::steady_clock::now() - a).count() / (double)items, sum.of};
+    return sum.of;
 }
 
 template <typename L, typename R>
@@ -313,7 +306,7 @@ Round receiving(const std::vector<std::string> &in, int state, R receive) {
         static char out[TRYPHOMEL_RECEIVE_ROOM];
         static L l;
         const L fresh = lane_of<L>(2, state);
-        return timed(in.size(), [&](Sum &sum) {
+        return summed([&](Sum &sum) {
             for (auto &m : in) {
                 l.lane = fresh.lane;
                 sum.add(receive(l, m.data(), m.size(), out, sizeof out), state_of(l));
@@ -329,7 +322,7 @@ Round sending(const std::vector<Both> &in, int state, S send, bool whole) {
         static char out[TRYPHOMEL_SEND_ROOM];
         static L l;
         const L fresh = lane_of<L>(1, state);
-        return timed(in.size(), [&](Sum &sum) {
+        return summed([&](Sum &sum) {
             for (auto &m : in) {
                 l.lane = fresh.lane;
                 plain::Answer a = send(l, for_side(l, m), out, sizeof out);
@@ -346,7 +339,7 @@ Round playing(const std::vector<std::vector<Step>> &all, S send, R receive) {
     return [=, &all] {
         static char out[TRYPHOMEL_SEND_ROOM], back[TRYPHOMEL_RECEIVE_ROOM], none[1];
         static L lanes[3];
-        return timed(all.size(), [&](Sum &sum) {
+        return summed([&](Sum &sum) {
             for (auto &steps : all) {
                 lanes[1].lane = lane_of<L>(1, 0).lane;
                 lanes[2].lane = lane_of<L>(2, 0).lane;
@@ -363,50 +356,39 @@ Round playing(const std::vector<std::vector<Step>> &all, S send, R receive) {
     };
 }
 
-// The rounds take turns, so that what else the machine does meets all alike. The first is ours.
-void table(const char *title, const std::vector<std::pair<const char *, Round>> &all) {
-    std::vector<Timed> best(all.size(), {1e9, 0});
-    for (int turn = 0; turn < 60; turn++)
-        for (size_t i = 0; i < all.size(); i++) {
-            Timed t = all[i].second();
-            if (t.spent < best[i].spent) best[i] = t;
-        }
-    printf("%s\n", title);
-    for (size_t i = 0; i < all.size(); i++) {
-        printf("  %-20s %8.0f ns", all[i].first, best[i].spent * 1e9);
-        if (i > 0) printf("; tryphomel has %.2f times its throughput%s", best[i].spent / best[0].spent, best[i].sum == best[0].sum ? "" : " (NOT THE SAME ANSWERS)");
-        printf("\n");
-    }
+size_t size_of(const std::vector<std::string> &all) {
+    size_t n = 0;
+    for (auto &m : all) n += m.size();
+    return n;
 }
 
 }  // namespace
 
-int main() {
-    std::vector<Both> boards;
-    std::vector<std::string> offered, pings;
-    for (int i = 0; i < 2000; i++) {
+void lane_works(std::vector<Work> &works) {
+    static std::vector<Both> boards;
+    static std::vector<std::string> offered, pings;
+    static std::vector<std::vector<Step>> all;
+    for (int i = 0; i < 500; i++) {
         boards.push_back(board(guid()));
         Ours u = lane_of<Ours>(1, 2);
         char out[TRYPHOMEL_SEND_ROOM];
         offered.emplace_back(out, send_ours(u, boards.back().ours, out, sizeof out).written);
         pings.push_back("<Hermes><CheckAlive Type=\"1\" Id=\"" + std::to_string(i) + "\"/></Hermes>");
     }
-    std::vector<std::vector<Step>> all;
-    for (int i = 0; i < 500; i++) all.push_back(handover());
-    table("receiving a BoardAvailable", {{"tryphomel", receiving<Ours>(offered, 2, receive_ours)},
-                                         {"expat and by hand", receiving<Theirs>(offered, 2, receive_expat)},
-                                         {"pugixml and by hand", receiving<Theirs>(offered, 2, receive_pugixml)}});
-    table("receiving a CheckAlive, and the reply", {{"tryphomel", receiving<Ours>(pings, 2, receive_ours)},
-                                                    {"expat and by hand", receiving<Theirs>(pings, 2, receive_expat)},
-                                                    {"pugixml and by hand", receiving<Theirs>(pings, 2, receive_pugixml)}});
-    uint64_t bytes = sending<Ours>(boards, 2, send_ours, true)().sum;
-    bool same = bytes == sending<Theirs>(boards, 2, send_plainly, true)().sum && bytes == sending<Theirs>(boards, 2, send_pugixml, true)().sum;
-    table(same ? "sending a BoardAvailable, the same bytes by all" : "sending a BoardAvailable (NOT THE SAME BYTES)",
-          {{"tryphomel", sending<Ours>(boards, 2, send_ours, false)},
-           {"by hand", sending<Theirs>(boards, 2, send_plainly, false)},
-           {"pugixml and by hand", sending<Theirs>(boards, 2, send_pugixml, false)}});
-    table("a handover: both sides, 8 messages sent and received, and a reply",
-          {{"tryphomel", playing<Ours>(all, send_ours, receive_ours)},
-           {"expat and by hand", playing<Theirs>(all, send_plainly, receive_expat)},
-           {"pugixml and by hand", playing<Theirs>(all, send_pugixml, receive_pugixml)}});
+    for (int i = 0; i < 100; i++) all.push_back(handover());
+    double size = (double)size_of(offered);
+    works.push_back({"receive a BoardAvailable", 500, size, {{"tryphomel", receiving<Ours>(offered, 2, receive_ours)},
+                                                             {"pugixml and by hand", receiving<Theirs>(offered, 2, receive_pugixml)},
+                                                             {"expat and by hand", receiving<Theirs>(offered, 2, receive_expat)}}});
+    works.push_back({"receive a CheckAlive, and reply", 500, (double)size_of(pings), {{"tryphomel", receiving<Ours>(pings, 2, receive_ours)},
+                                                                                      {"pugixml and by hand", receiving<Theirs>(pings, 2, receive_pugixml)},
+                                                                                      {"expat and by hand", receiving<Theirs>(pings, 2, receive_expat)}}});
+    uint64_t bytes = sending<Ours>(boards, 2, send_ours, true)();
+    bool same = bytes == sending<Theirs>(boards, 2, send_plainly, true)() && bytes == sending<Theirs>(boards, 2, send_pugixml, true)();
+    works.push_back({same ? "send a BoardAvailable" : "send a BoardAvailable (NOT THE SAME BYTES)", 500, size, {{"tryphomel", sending<Ours>(boards, 2, send_ours, false)},
+                                                                                                             {"pugixml and by hand", sending<Theirs>(boards, 2, send_pugixml, false)},
+                                                                                                             {"by hand", sending<Theirs>(boards, 2, send_plainly, false)}}});
+    works.push_back({"a handover: both sides, 8 messages sent and received, and a reply", 100, 100, {{"tryphomel", playing<Ours>(all, send_ours, receive_ours)},
+                                                                                                  {"pugixml and by hand", playing<Theirs>(all, send_pugixml, receive_pugixml)},
+                                                                                                  {"expat and by hand", playing<Theirs>(all, send_plainly, receive_expat)}}});
 }

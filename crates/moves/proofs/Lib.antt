@@ -3,3 +3,4 @@ pub mod Rows
 pub mod Bytes
 pub mod Among
 pub mod Ranges
+pub mod AskedLaws

@@ -18,6 +18,7 @@ use lane::State;
 use lane::Step;
 ghost use mathlib.Core.Path.{_≡_};
 ghost use Rattle.lane.specs.Record as says;
+ghost use Rattle.moves.specs.Asked.{Asked};
 
 /// The answer to a refusal that ends the connection: the lane is NotConnected, and a board under way is stopped.
 pub fn ended(lane: Lane, refusal: u8) -> Moved
@@ -43,7 +44,7 @@ pub fn ended(lane: Lane, refusal: u8) -> Moved
 pub fn received(lane: Lane, event: Event) -> Moved
     ensures { λ r. ⌜ r ≡ says.received lane event ⌝ }
 {
-    let same = carries_own(lane, event);
+    let same = carries_held(lane, event);
     match next(lane.state, event.kind, other(lane.side), true, same) {
         Step::To(n) => accepted(lane, true, n, event),
         Step::NoTransition => ended(lane, Refusal::PROTOCOL_ERROR),
@@ -55,7 +56,7 @@ pub fn received(lane: Lane, event: Event) -> Moved
 pub fn sent(lane: Lane, event: Event) -> Moved
     ensures { λ r. ⌜ r ≡ says.sent lane event ⌝ }
 {
-    let same = carries_own(lane, event);
+    let same = carries_held(lane, event);
     match next(lane.state, event.kind, lane.side, false, same) {
         Step::To(n) => accepted(lane, false, n, event),
         Step::NoTransition => kept(lane, Refusal::MAY_NOT_BE_SENT),
@@ -172,6 +173,19 @@ fn carries_own(lane: Lane, event: Event) -> bool
     }
     let running = lane.running;
     same_bytes(&running, &id)
+}
+
+// The same, where the chart asks for it: StartTransport, StopTransport, TransportFinished. Of other messages nothing is compared.
+fn carries_held(lane: Lane, event: Event) -> bool
+    ensures { λ r. ⌜ Asked lane event r ⌝ }
+{
+    if event.kind < Kind::START_TRANSPORT {
+        return false;
+    }
+    if Kind::TRANSPORT_FINISHED < event.kind {
+        return false;
+    }
+    carries_own(lane, event)
 }
 
 // The forecast behind a message that passes: a received forecast with an id replaces it, a MachineReady with the same id clears it.

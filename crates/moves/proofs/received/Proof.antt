@@ -4,8 +4,8 @@ use Rattle.lane.specs.Record as says
 use Rattle.moves.proofs.received.Statement.{statement}
 use Rattle.moves.proofs.received.Tie as tie
 
-carries-own-requires : tie.Need-carries-own-requires
-carries-own-requires c κs = search needs
+carries-held-requires : tie.Need-carries-held-requires
+carries-held-requires c κs = search needs
 
 other-requires : tie.Need-other-requires
 other-requires c κs = search needs
@@ -29,21 +29,21 @@ returns : tie.Need-returns
 unfolding says.received
 returns c =
     let b = c .before .before .before .before in
-    rw (← b .before .before .carries-own .ensures, ← b .before .other .ensures, ← b .next .ensures, c .before .before .n .given .1)
+    rw (← b .before .other .ensures, ← b .before .before .carries-held .ensures .says _ _ _, ← b .next .ensures, c .before .before .n .given .1)
     (c .accepted .ensures)
 
 returns-2 : tie.Need-returns-2
 unfolding says.received
 returns-2 c =
     let b = c .before .before .before in
-    rw (← b .before .before .carries-own .ensures, ← b .before .other .ensures, ← b .next .ensures, c .before .enum-told .given .1)
+    rw (← b .before .other .ensures, ← b .before .before .carries-held .ensures .says _ _ _, ← b .next .ensures, c .before .enum-told .given .1)
     (c .ended .ensures)
 
 pub received-spec : {M : Type 1} → statement M
 received-spec =
     tie.close
     (tie.spec
-    carries-own-requires
+    carries-held-requires
     other-requires
     next-requires
     enum-known-n

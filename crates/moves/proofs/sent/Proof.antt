@@ -4,8 +4,8 @@ use Rattle.lane.specs.Record as says
 use Rattle.moves.proofs.sent.Statement.{statement}
 use Rattle.moves.proofs.sent.Tie as tie
 
-carries-own-requires : tie.Need-carries-own-requires
-carries-own-requires c κs = search needs
+carries-held-requires : tie.Need-carries-held-requires
+carries-held-requires c κs = search needs
 
 next-requires : tie.Need-next-requires
 next-requires c κs = search needs
@@ -26,21 +26,21 @@ returns : tie.Need-returns
 unfolding says.sent
 returns c =
     let b = c .before .before .before .before in
-    rw (← b .before .carries-own .ensures, ← b .next .ensures, c .before .before .n .given .1)
+    rw (← b .before .carries-held .ensures .says _ _ _, ← b .next .ensures, c .before .before .n .given .1)
     (c .accepted .ensures)
 
 returns-2 : tie.Need-returns-2
 unfolding says.sent
 returns-2 c =
     let b = c .before .before .before in
-    rw (← b .before .carries-own .ensures, ← b .next .ensures, c .before .enum-told .given .1)
+    rw (← b .before .carries-held .ensures .says _ _ _, ← b .next .ensures, c .before .enum-told .given .1)
     (c .kept .ensures)
 
 pub sent-spec : {M : Type 1} → statement M
 sent-spec =
     tie.close
     (tie.spec
-    carries-own-requires
+    carries-held-requires
     next-requires
     enum-known-n
     accepted-requires
