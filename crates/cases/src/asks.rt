@@ -1,20 +1,20 @@
 // Calls that change no lane. `check NAME`: what reading answers, and behind the semicolon what checking does, with the values of an accepted message in
 // table order: an absent one is `-`, a text its place and length, features their bits. `write ROOM` and a message. `move` with a record, a kind and an
 // id: what a message does to a lane, received and sent; bytes behind the tab are its ForecastId.
-use crate::feeding::feed;
-use crate::given::forecast;
-use crate::given::id;
-use crate::given::kind;
-use crate::given::message;
-use crate::given::record;
-use crate::line::byte;
-use crate::line::decimal;
-use crate::line::low;
-use crate::numbers::worth;
-use crate::show;
-use crate::show::put;
-use crate::show::small;
-use crate::show::told;
+use case_words::feeding::feed;
+use case_words::given::forecast;
+use case_words::given::id;
+use case_words::given::kind;
+use case_words::given::message;
+use case_words::given::record;
+use case_words::line::byte;
+use case_words::line::decimal;
+use case_words::line::low;
+use case_words::numbers::worth;
+use case_words::show;
+use case_words::show::put;
+use case_words::show::small;
+use case_words::show::told;
 use lane::Event;
 use lane::Forecast;
 use lane::Lane;

@@ -1,14 +1,14 @@
 // Calls on lanes. A line names the lane: `u` upstream, `d` downstream, `r` the record that was put down last, `l` where the last call led to. `put LANE`
 // and a record put it down, with the bytes of its ForecastId behind the tab. `receive LANE ROOM NAME`; `send LANE ROOM` and a message; `arrive LANE ROOM NAME` receives what was sent last; `lost LANE`.
-use crate::given::message;
-use crate::given::record;
-use crate::line::byte;
-use crate::line::decimal;
-use crate::line::find;
-use crate::show;
-use crate::show::put;
-use crate::show::small;
-use crate::show::told;
+use case_words::given::message;
+use case_words::given::record;
+use case_words::line::byte;
+use case_words::line::decimal;
+use case_words::line::find;
+use case_words::show;
+use case_words::show::put;
+use case_words::show::small;
+use case_words::show::told;
 use handover::Received;
 use handover::Sent;
 use lane::Lane;

@@ -1,16 +1,12 @@
 // Runs the cases of standard input, a line each, and writes each line up to its tab with what the call answers. A line that is empty or starts with
-// `#` is copied. The first letter of a line says which call it is; the heads of `asks`, `given` and `calls` say what its words are. Its bytes stand
+// `#` is copied. The first letter of a line says which call it is; the heads of `asks` and `calls`, and of `given` in `case_words`, say what its words are. Its bytes stand
 // behind a tab: `\xHH` is one byte, and `\{N}` makes the next byte N of them.
 mod asks;
 mod calls;
-mod feeding;
-mod given;
-mod line;
-mod numbers;
-mod show;
 
 use calls::Lanes;
-use show::put;
+use case_words::line;
+use case_words::show::put;
 
 // The part of a line that is written again: all of it where a number is read.
 fn shown(s: &[u8], tab: usize) -> usize {

@@ -2,8 +2,8 @@
 use borrow.Author.Needs.{needs}
 use lib.ListN.{length}
 use mathlib.Core.Path.{_≡_}
-use Rattle.cases.proofs.line.fill.Statement.{statement}
-use Rattle.cases.proofs.line.fill.Tie as tie
+use Rattle.case_words.proofs.line.fill.Statement.{statement}
+use Rattle.case_words.proofs.line.fill.Tie as tie
 
 abbrev Inv-loop : tie.InvT-loop
 Inv-loop out₀ len count b i₀ left₀ out i left = length out ≡ length out₀

@@ -4,8 +4,8 @@ use native.Mathlib.Omega.{arith}
 use Prim.Native.Nat.{_≤_, _-_}
 use lib.ListN.{length}
 use mathlib.Core.Path.{_≡_}
-use Rattle.cases.proofs.given.message.Statement.{statement}
-use Rattle.cases.proofs.given.message.Tie as tie
+use Rattle.case_words.proofs.given.message.Statement.{statement}
+use Rattle.case_words.proofs.given.message.Tie as tie
 
 abbrev Inv-loop : tie.InvT-loop
 Inv-loop s from k cells₀ letter₀ at₀ i₀ cells letter at i = (i ≤ 24) × (length cells ≡ 72)

@@ -3,8 +3,8 @@ use borrow.Author.Needs.{needs}
 use native.Mathlib.Omega.{arith}
 use mathlib.Core.Path.{sym}
 use lib.Seq.{length-take-le}
-use Rattle.cases.proofs.show.bytes.Statement.{statement}
-use Rattle.cases.proofs.show.bytes.Tie as tie
+use Rattle.case_words.proofs.show.bytes.Statement.{statement}
+use Rattle.case_words.proofs.show.bytes.Tie as tie
 
 returns : tie.Need-returns
 returns c = search needs

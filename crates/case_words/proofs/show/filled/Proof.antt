@@ -3,10 +3,10 @@ use borrow.Author.Needs.{needs}
 use native.Mathlib.Omega.{arith}
 use Prim.Native.Nat.{_≤_}
 use lib.ListN.{length}
-use Rattle.cases.proofs.show.filled.Statement.{statement}
-use Rattle.cases.proofs.show.filled.Tie as tie
-use Rattle.cases.proofs.show.filled.Reads as reads
-use Rattle.cases.proofs.show.filled.Lts as lts
+use Rattle.case_words.proofs.show.filled.Statement.{statement}
+use Rattle.case_words.proofs.show.filled.Tie as tie
+use Rattle.case_words.proofs.show.filled.Reads as reads
+use Rattle.case_words.proofs.show.filled.Lts as lts
 
 abbrev Inv-loop : tie.InvT-loop
 Inv-loop bytes n₀ n = n ≤ length bytes

@@ -2,8 +2,8 @@
 use borrow.Author.Needs.{needs}
 use native.Mathlib.Omega.{arith}
 use Prim.Native.Nat.{_≤_, _-_}
-use Rattle.cases.proofs.line.decimal.Statement.{statement}
-use Rattle.cases.proofs.line.decimal.Tie as tie
+use Rattle.case_words.proofs.line.decimal.Statement.{statement}
+use Rattle.case_words.proofs.line.decimal.Tie as tie
 
 abbrev Inv-loop : tie.InvT-loop
 Inv-loop s from n₀ i₀ n i = (i ≤ 20) × (from ≤ 2000000)

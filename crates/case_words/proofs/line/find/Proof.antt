@@ -1,19 +1,19 @@
--- `untouched` reads within the bytes, and ends.
+-- `find` stays between its start and the end of the bytes.
 use borrow.Author.Needs.{needs}
-use Prim.Native.Nat.{_-_}
+use native.Mathlib.Omega.{arith}
+use Prim.Native.Nat.{_≤_, _-_}
 use lib.ListN.{length}
-use mathlib.Core.Path.{_≡_}
-use Rattle.cases.proofs.show.untouched.Statement.{statement}
-use Rattle.cases.proofs.show.untouched.Tie as tie
+use Rattle.case_words.proofs.line.find.Statement.{statement}
+use Rattle.case_words.proofs.line.find.Tie as tie
 
 abbrev Inv-loop : tie.InvT-loop
-Inv-loop s from i₀ i = length s ≡ length s
+Inv-loop s from b i₀ i = (from ≤ i) × (i ≤ length s)
 
 abbrev μ-loop : tie.MeasureT-loop
-μ-loop s from i₀ i = length s - i
+μ-loop s from b i₀ i = length s - i
 
 loop-holds : tie.Need-loop-holds Inv-loop μ-loop
-loop-holds c = search needs
+loop-holds c = (omega arith, omega arith)
 
 shared-slice-read-if1 : tie.Need-shared-slice-read-if1 Inv-loop μ-loop
 shared-slice-read-if1 c = search needs
@@ -28,13 +28,13 @@ loop-less : tie.Need-loop-less Inv-loop μ-loop
 loop-less c = search needs
 
 loop-again : tie.Need-loop-again Inv-loop μ-loop
-loop-again c = search needs
+loop-again c = (omega arith, omega arith)
 
 returns-2 : tie.Need-returns-2 Inv-loop μ-loop
 returns-2 c = search needs
 
-pub untouched-spec : {M : Type 1} → statement M
-untouched-spec =
+pub find-spec : {M : Type 1} → statement M
+find-spec =
     tie.close
     (tie.spec
     Inv-loop

@@ -3,8 +3,8 @@ use borrow.Author.Needs.{needs}
 use Prim.Native.Nat.{_-_}
 use lib.ListN.{length}
 use mathlib.Core.Path.{_≡_}
-use Rattle.cases.proofs.line.bytes.Statement.{statement}
-use Rattle.cases.proofs.line.bytes.Tie as tie
+use Rattle.case_words.proofs.line.bytes.Statement.{statement}
+use Rattle.case_words.proofs.line.bytes.Tie as tie
 
 abbrev Inv-loop : tie.InvT-loop
 Inv-loop s out₀ at₀ len₀ out at len = length out ≡ length out₀

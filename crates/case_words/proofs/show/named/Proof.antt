@@ -2,13 +2,13 @@ use mathlib.Core.Path.{sym}
 use native.Mathlib.Omega.{arith}
 use lib.Seq.{length-take-le}
 use borrow.Author.Needs.{needs}
-use Rattle.cases.proofs.show.named.Statement.{statement}
-use Rattle.cases.proofs.show.named.Tie as tie
-use Rattle.cases.proofs.show.named.Reads as reads
-use Rattle.cases.proofs.show.named.Lts as lts
-use Rattle.cases.proofs.show.filled.Reads as filled-reads
-use Rattle.cases.proofs.show.small.Reads as small-reads
-use Rattle.cases.proofs.show.word.Reads as word-reads
+use Rattle.case_words.proofs.show.named.Statement.{statement}
+use Rattle.case_words.proofs.show.named.Tie as tie
+use Rattle.case_words.proofs.show.named.Reads as reads
+use Rattle.case_words.proofs.show.named.Lts as lts
+use Rattle.case_words.proofs.show.filled.Reads as filled-reads
+use Rattle.case_words.proofs.show.small.Reads as small-reads
+use Rattle.case_words.proofs.show.word.Reads as word-reads
 
 -- src/show.rt:114:9
 filled-requires : tie.Need-filled-requires

@@ -4,8 +4,8 @@ use native.Mathlib.Omega.{arith}
 use Prim.Native.Nat.{_-_}
 use lib.ListN.{length}
 use mathlib.Core.Path.{_≡_}
-use Rattle.cases.proofs.show.same.Statement.{statement}
-use Rattle.cases.proofs.show.same.Tie as tie
+use Rattle.case_words.proofs.show.same.Statement.{statement}
+use Rattle.case_words.proofs.show.same.Tie as tie
 
 abbrev Inv-loop : tie.InvT-loop
 Inv-loop a b i₀ i = length a ≡ length b
