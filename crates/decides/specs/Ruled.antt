@@ -9,7 +9,8 @@ use Rattle.table.specs.Table.{rowsOf}
 use Rattle.rows.specs.Coding.{rowOf}
 use Rattle.rows.specs.declared.data.Row.{Row as Coded}
 use Rattle.reads.specs.Held.{Held, pairs, place}
-use Rattle.reads.specs.Children.{Holds}
+use Rattle.reads.specs.Kept.{Sorted}
+use Rattle.reads.specs.declared.features.Sort.{Sort}
 use Rattle.decides.specs.Deciding.{valueIn, firstRefused}
 use Rattle.decides.specs.declared.Ruling.{Ruling}
 
@@ -18,5 +19,5 @@ pub record Stands (s : Bytes) (base : ℕ) (table : List ℕ) (count : ℕ) (c :
   pub says : (h : Held s base table count) → r ≡ valueIn (rowOf c .form) (place h (rowOf c .name))
 
 -- the first row of the kind that is refused
-pub record Rules (s : Bytes) (base : ℕ) (table : List ℕ) (count inside k : ℕ) (r : Ruling) : Type 0 where
-  pub says : (h : Held s base table count) (m : Bytes) (f : Forest) → Holds s inside f → r ≡ firstRefused 0 (rowsOf k) (place h) (tree m (pairs h) f)
+pub record Rules (s : Bytes) (base : ℕ) (table : List ℕ) (count : ℕ) (k : Sort) (r : Ruling) : Type 0 where
+  pub says : (h : Held s base table count) (m : Bytes) (f : Forest) → Sorted k f → r ≡ firstRefused 0 (rowsOf (k .kind)) (place h) (tree m (pairs h) f)

@@ -5,6 +5,8 @@ ghost use Rattle.reads.specs.Held.{Held};
 ghost use Rattle.decides.specs.Deciding.{unruled, undecided, decidedBy, Decides};
 ghost use Rattle.decides.specs.Ruled.{Stands, Rules};
 use reader::answer::Answer;
+use reads::features::Sort;
+use reads::features::sort_of;
 use reads::find::find;
 use reads::trying::try_row;
 use rows::data::NAMES;
@@ -13,7 +15,6 @@ use rows::data::Row;
 use rows::data::name_at;
 use rows::data::row_at;
 use rows::data::rows_of;
-use rows::kind_named;
 use tags::attributes::PLACES;
 use value::Words;
 
@@ -78,7 +79,7 @@ fn value_of(s: &[u8], base: usize, table: &[u16], count: usize, names: &[u8], ro
         return Words::Absent;
     }
     let name = name_at(names, row.line as usize, row.len as usize);
-    find(s, base, table, count, name)
+    find(s, base, table, count, 0, name)
 }
 
 // Tries the rows of the kind in order, up to the first that is refused.
@@ -87,21 +88,21 @@ fn rule(
     base: usize,
     table: &[u16],
     count: usize,
-    inside: usize,
-    kind: u8,
+    sort: Sort,
     numbers: &[u64],
     names: &[u8],
 ) -> Ruling
     requires { ⌜ Held (now s) base (now table) count × (now numbers ≡ coding) × (now names ≡ letters) ⌝ }
-    ensures { λ r. ⌜ Rules (now (s .entry)) base (now (table .entry)) count inside kind r ⌝ }
+    ensures { λ r. ⌜ Rules (now (s .entry)) base (now (table .entry)) count sort r ⌝ }
 {
-    let range = rows_of(kind);
+    let range = rows_of(sort.kind);
+    let features = sort.features;
     let from = range.from;
     let n = range.count;
     let mut i = 0;
     while i < n {
         let row = row_at(numbers, from + i);
-        let t = try_row(s, base, table, count, inside, names, row);
+        let t = try_row(s, base, table, count, i, features, names, row);
         let refusal = t.refusal;
         if refusal != 0 {
             let value = value_of(s, base, table, count, names, row);
@@ -125,12 +126,12 @@ pub fn decided(s: &[u8]) -> Decision
     let a = o.answer;
     match a {
         Answer::Ends { start, end } => {
-            let from = o.from;
             let to = o.to;
-            let kind = kind_named(&s[from..to]);
+            let k = sort_of(s, o.from, to, o.inside);
+            let kind = k.kind;
             let numbers = NUMBERS;
             let names = NAMES;
-            let x = rule(s, to, &table, o.count, o.inside, kind, &numbers, &names);
+            let x = rule(s, to, &table, o.count, k, &numbers, &names);
             made(kind, x)
         }
         Answer::More { start } => unread(1),

@@ -20,7 +20,8 @@ pub extern "C" fn tryphomel_check(
     *cells = [0u64; NUMBERS];
     let mut table = [0u16; PLACES];
     let o = reader::outline(bytes, &mut table);
-    let f = reads::check_outlined(bytes, o, &table, &mut *cells);
+    let k = reads::features::sort_of(bytes, o.from, o.to, o.inside);
+    let f = reads::check_outlined(bytes, o, k, &table, &mut *cells);
     let b = f.id;
     *kind = f.kind as u64;
     *id = b;

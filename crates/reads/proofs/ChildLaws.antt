@@ -2,9 +2,12 @@
 use mathlib.Core.Path.{_≡_, refl, sym, ap, subst, _∙_}
 use mathlib.Core.List.{List, [], _∷_, _++_, append-assoc}
 use mathlib.Core.Bool.{Bool, true, false, _||_, cond}
-use Prim.Native.Nat.{ℕ, _+_, _-_, _≤_, _<_}
+use Prim.Native.Nat.{ℕ, _+_, _-_, _*_, _≤_, _<_}
 use native.Mathlib.Omega.{arith}
 use lib.ListN.{length, length-append, length-drop, take, drop}
+use lib.Dec.{eqb}
+use lib.Seq.{length-take-le}
+use borrow.Author.Tests.{leb-true}
 use Rattle.exact.specs.Chain.{clash}
 use Rattle.grammar.specs.Bytes.{Bytes, text, same}
 use Rattle.grammar.specs.Limits.{DEPTH}
@@ -17,10 +20,14 @@ use Rattle.reader.specs.Child.{noChild, Next, Stands, NextChild}
 use Rattle.reader.specs.Parts.{Parts, child-parts, next-one, InContent, in-content, content-deeper}
 use Rattle.reader.specs.declared.answer.Child.{Child}
 use Rattle.table.specs.Says.{present, noted, without, nameOf, childrenOf, hasChild, notes, featured}
-use Rattle.rows.specs.Coding.{names, nameAt}
+use Rattle.lane.specs.Names.{ServiceDescription}
+use Rattle.table.specs.Table.{table, kindOf}
+use Rattle.rows.specs.Coding.{LINES, WIDTH, names, nameAt}
+use Rattle.rows.proofs.CodingLaws.{length-names}
 use Rattle.reads.specs.Children.{Holds, holds-none, holds, unnamedChild, First, no-child, first-child, FirstIn}
-use Rattle.reads.specs.Kept.{asCell, lacking, featuresOf, NotesIn, ChildTries}
+use Rattle.reads.specs.Kept.{asCell, lacking, featuresOf, NotesIn, SUPPORTED, Carried, Supports, Sorts}
 use Rattle.reads.specs.declared.features.Named.{Named}
+use Rattle.reads.specs.declared.features.Sort.{Sort}
 use Rattle.reads.specs.declared.tried.Tried.{Tried}
 
 -- a found child stands inside the bytes, and the search goes on behind it
@@ -187,15 +194,29 @@ bits x true false = refl
 bits x false true = refl
 bits x false false = refl
 
--- their names stand on three lines
-on-lines : (nameAt 0 20 ≡ text "FeatureBoardForecast") × (nameAt 1 21 ≡ text "FeatureQueryBoardInfo") × (nameAt 2 20 ≡ text "FeatureSendBoardInfo")
-unfolding names
-on-lines = (refl, refl, refl)
+-- their names stand first on their lines
+abbrev pub onLine : ℕ → ℕ → Bytes
+onLine line n = take n (drop 0 (nameAt line 24))
+
+on-lines : (onLine 0 20 ≡ text "FeatureBoardForecast") × (onLine 1 21 ≡ text "FeatureQueryBoardInfo") × (onLine 2 20 ≡ text "FeatureSendBoardInfo") × (onLine 6 17 ≡ SUPPORTED)
+unfolding names table
+on-lines = (refl, refl, refl, refl)
+
+-- there are so many lines, each of 24 bytes
+pub some-lines : (n : ℕ) → n < 20 → n < LINES
+unfolding table
+some-lines n h = let z = leb-true 20 LINES refl in omega arith
+
+pub length-line : (n : ℕ) → n < LINES → {l : Bytes} → l ≡ nameAt n 24 → length l ≡ 24
+length-line n h e =
+    let z : n * WIDTH + 24 - n * WIDTH ≡ 24 = omega arith in
+    let d = length-drop (n * WIDTH) names in
+    ap length e ∙ ap (λ (m : ℕ). length (take m (drop (n * WIDTH) names))) z ∙ length-take-le 24 (drop (n * WIDTH) names) (omega (arith, length-names))
 
 finds : {s : Bytes} {inside : ℕ} {n n′ m : Bytes} {r : Named} {f : Forest} → FirstIn s inside n r → n ≡ n′ → n′ ≡ m → Holds s inside f → r .found ≡ hasChild m f
 finds {s} {inside} {r = r} {f = f} p e q h = found-is (subst (λ (n : Bytes). FirstIn s inside n r) (e ∙ q) p .says f h)
 
-pub all-noted : {s : Bytes} {inside : ℕ} {x y z : Named} {l m n : Bytes} {a b d : ℕ} {r : Tried} → l ≡ nameAt 0 20 → FirstIn s inside l x → m ≡ nameAt 1 21 → FirstIn s inside m y → n ≡ nameAt 2 20 → FirstIn s inside n z → a ≡ cond (x .found) 1 0 → b ≡ cond (y .found) 2 0 → d ≡ cond (z .found) 4 0 → r ≡ asCell 0 (1 ∷ (a + (b + d)) ∷ 0 ∷ []) → NotesIn s inside r
+pub all-noted : {s : Bytes} {inside : ℕ} {x y z : Named} {l m n : Bytes} {a b d : ℕ} {r : Tried} → l ≡ onLine 0 20 → FirstIn s inside l x → m ≡ onLine 1 21 → FirstIn s inside m y → n ≡ onLine 2 20 → FirstIn s inside n z → a ≡ cond (x .found) 1 0 → b ≡ cond (y .found) 2 0 → d ≡ cond (z .found) 4 0 → r ≡ asCell 0 (1 ∷ (a + (b + d)) ∷ 0 ∷ []) → NotesIn s inside r
 all-noted {s} {inside} {x} {y} {z} {r = r} i p j q k t e f g u = record { says = go }
   where
     cell : Bool → Bool → Bool → Tried
@@ -217,17 +238,29 @@ lacks : (o : Bool) → lacking o ≡ featuresOf (without o)
 lacks true = refl
 lacks false = refl
 
-module _ {s : Bytes} {inside : ℕ} {name : Bytes} (o : Bool) {c : Named} {r : Tried} (first : FirstIn s inside name c) where
-  pub child-tried : c .found ≡ true → NotesIn s (c .inside) r → ChildTries s inside name o r
-  child-tried q n = record { says = λ f h. go f (first .says f h) }
-    where
-      go : (f : Forest) → First s name f c → r ≡ featuresOf (featured name o f)
-      go f (no-child e a b) = clash (sym q ∙ ap (λ (y : Named). y .found) e)
-      go f (first-child e a t b h) = n .says (childrenOf t) h ∙ ap featuresOf (sym (b o))
+-- the first child SupportedFeatures
+module _ {s : Bytes} {inside : ℕ} {name : Bytes} {c : Named} (e : name ≡ onLine 6 17) (first : FirstIn s inside name c) where
+  search-says : (f : Forest) → Holds s inside f → First s SUPPORTED f c
+  search-says f h = subst (λ (n : Bytes). First s n f c) (e ∙ on-lines .3) (first .says f h)
 
-  pub child-lacking : c .found ≡ false → r ≡ lacking o → ChildTries s inside name o r
-  child-lacking q e = record { says = λ f h. go f (first .says f h) }
+  pub supports-some : {r : Tried} → c .found ≡ true → NotesIn s (c .inside) r → Supports s inside r
+  supports-some {r} q n = record { says = λ f h. go f (search-says f h) }
     where
-      go : (f : Forest) → First s name f c → r ≡ featuresOf (featured name o f)
-      go f (no-child d a b) = e ∙ lacks o ∙ ap featuresOf (sym (b o))
+      go : (f : Forest) → First s SUPPORTED f c → Carried SUPPORTED r f
+      go f (no-child d a b) = clash (sym q ∙ ap (λ (y : Named). y .found) d)
+      go f (first-child d a t b h) = λ o. ap (λ (r : Tried). cond (eqb (r .there) 0) (lacking o) r) (n .says (childrenOf t) h) ∙ ap featuresOf (sym (b o))
+
+  pub supports-none : {r : Tried} → c .found ≡ false → r ≡ asCell 0 (0 ∷ 0 ∷ 0 ∷ []) → Supports s inside r
+  supports-none {r} q k = record { says = λ f h. go f (search-says f h) }
+    where
+      go : (f : Forest) → First s SUPPORTED f c → Carried SUPPORTED r f
+      go f (no-child d a b) = λ o. ap (λ (r : Tried). cond (eqb (r .there) 0) (lacking o) r) k ∙ lacks o ∙ ap featuresOf (sym (b o))
       go f (first-child d a t b h) = clash (sym d ∙ q)
+
+-- the kind of an element, and its features
+module _ {s : Bytes} {from to inside k : ℕ} {t : Tried} (e : k ≡ kindOf (take (to - from) (drop from s))) where
+  pub sorts-some : Supports s inside t → Sorts s from to inside (record { kind = k; features = t })
+  sorts-some h = record { kind = e; features = λ f z _. h .says f z }
+
+  pub sorts-none : (k ≡ ServiceDescription → ⊥) → Sorts s from to inside (record { kind = k; features = t })
+  sorts-none n = record { kind = e; features = λ f z q. absurd (n q) }

@@ -1,21 +1,24 @@
 -- Attributes of a tag, one by one, and the one of a name.
 use mathlib.Core.Path.{_≡_, refl, sym, ap, subst, _∙_}
 use mathlib.Core.List.{List, [], _∷_, _++_}
-use mathlib.Core.Bool.{Bool, true, false, cond}
+use mathlib.Core.Bool.{Bool, true, false, _||_, not, cond}
 use Prim.Native.Nat.{ℕ, zero, suc, _+_, _-_, _*_, _≤_, _<_}
 use native.Mathlib.Omega.{arith}
 use native.Mathlib.Nat.{add-zero}
 use lib.ListN.{length, length-append, length-drop, take, drop, getD}
 use Prim.Native.Char.{code}
-use Rattle.grammar.specs.Bytes.{Bytes, same}
+use Rattle.exact.specs.Chain.{clash}
+use Rattle.grammar.specs.Bytes.{Bytes, same, among}
 use Rattle.grammar.specs.Value.{spellValue}
-use Rattle.grammar.specs.Attribute.{Attribute, spellAttribute, spellAttributes, GoodEach, good-each}
+use Rattle.grammar.specs.Attribute.{Attribute, spellAttribute, spellAttributes, GoodEach, good-each, fresh}
+use borrow.Author.Tests.{not-true}
+use Rattle.model.specs.Tests.{and-left, and-right, same-true}
 use Rattle.tags.specs.Places.{nameAt, nameEnd, valueAt, valueEnd, places}
 use Rattle.reader.specs.Parts.{AttributeAt, attribute-stands}
 use Rattle.value.specs.declared.text.Words.{Words}
 use Rattle.value.specs.declared.text.Words.the-variants.{Absent, Present}
 use Rattle.message.specs.Checked.{placeOf}
-use Rattle.reads.specs.Held.{Held, place}
+use Rattle.reads.specs.Held.{Held, Called, Lies, place}
 
 -- from row i on the table holds the attributes that are left, which stand from `at` on, counted from `base`
 pub record Left (s : Bytes) (base : ℕ) (table : List ℕ) (count i : ℕ) (name : Bytes) (whole : Words) : Type 0 where
@@ -116,6 +119,13 @@ module _ (s : Bytes) (base : ℕ) (table : List ℕ) (count i : ℕ) (name : Byt
   next : base + (valueEnd rel a + 1) ≡ valueEnd at a + 1
   next = omega arith
 
+  -- what is left behind it
+  stands-next : drop (base + (valueEnd rel a + 1)) s ≡ spellAttributes l ++ after
+  stands-next = ap (λ (n : ℕ). drop n s) next ∙ stands .next
+
+  rows-next : drop (4 * (i + 1)) table ≡ places (valueEnd rel a + 1) l ++ rest
+  rows-next = let q : 4 * i + 4 ≡ 4 * (i + 1) = omega arith in subst (λ (n : ℕ). drop n table ≡ places (valueEnd rel a + 1) l ++ rest) q (table-row .rest)
+
   this-row : RowAt s base table count i name whole (nameAt at a) (nameEnd at a) (valueAt at a) (valueEnd at a)
   this-row = record {
     long = table-row .long;
@@ -130,8 +140,8 @@ module _ (s : Bytes) (base : ℕ) (table : List ℕ) (count i : ℕ) (name : Byt
       after = after;
       rest = rest;
       good = good;
-      stand = ap (λ (n : ℕ). drop n s) next ∙ stands .next;
-      rows = let q : 4 * i + 4 ≡ 4 * (i + 1) = omega arith in subst (λ (n : ℕ). drop n table ≡ places (valueEnd rel a + 1) l ++ rest) q (table-row .rest);
+      stand = stands-next;
+      rows = rows-next;
       counts = omega arith;
       same-place = placed false e ∙ ap (λ (n : ℕ). placeOf n l name) (sym next);
     };
@@ -147,6 +157,13 @@ module _ (s : Bytes) (base : ℕ) (table : List ℕ) (count i : ℕ) (name : Byt
       (subst (λ (x : ℕ). RowAt s base table count i name whole (nameAt at a) x (base + getD table (4 * i + 2) 0) (base + getD table (4 * i + 3) 0)) p₂
       (subst (λ (x : ℕ). RowAt s base table count i name whole (nameAt at a) (nameEnd at a) x (base + getD table (4 * i + 3) 0)) p₃
       (subst (λ (x : ℕ). RowAt s base table count i name whole (nameAt at a) (nameEnd at a) (valueAt at a) x) p₄ this-row)))
+
+  -- its name, by the table
+  called : take (base + getD table (4 * i + 1) 0 - (base + getD table (4 * i) 0)) (drop (base + getD table (4 * i) 0) s) ≡ a .name
+  called =
+      let p₁ : nameAt at a ≡ base + getD table (4 * i) 0 = omega (arith, table-row .one) in
+      let p₂ : nameEnd at a ≡ base + getD table (4 * i + 1) 0 = omega (arith, table-row .two) in
+      ap (λ (n : ℕ). take (n - (base + getD table (4 * i) 0)) (drop (base + getD table (4 * i) 0) s)) (sym p₂) ∙ ap (λ (n : ℕ). take (nameEnd at a - n) (drop n s)) (sym p₁) ∙ stands .name
 
 each-but : {a : Attribute} {l : List Attribute} → GoodEach (a ∷ l) → GoodEach l
 each-but (good-each g r) = r
@@ -168,3 +185,79 @@ none-left {base = base} {count = count} {i = i} {name = name} {whole = whole} f 
     go : (l : List Attribute) → count ≡ i + length l → whole ≡ placeOf (base + f .at) l name → Absent ≡ whole
     go [] c d = sym d
     go (x ∷ l) c d = absurd (omega arith)
+
+-- a step of the search
+module _ {s : Bytes} {base : ℕ} {table : List ℕ} {count i : ℕ} {name : Bytes} {whole : Words} {r : Bool} (f : Left s base table count i name whole) (h : i < count) (e : Called s base table i name r) where
+  pub search-hit : {w : Words} → r ≡ true → Lies base table i w → w ≡ whole
+  search-hit t q = q ∙ sym (row-at f h .hit (sym e ∙ t))
+
+  pub search-miss : r ≡ false → Left s base table count (i + 1) name whole
+  search-miss t = row-at f h .miss (sym e ∙ t)
+
+-- what the table says of the attribute k stands in the bytes
+pub record PlacedAt (s : Bytes) (base : ℕ) (table : List ℕ) (k : ℕ) : Type 0 where
+  pub long : 4 * k + 3 < length table
+  pub name-order : base + getD table (4 * k) 0 ≤ base + getD table (4 * k + 1) 0
+  pub name-in : base + getD table (4 * k + 1) 0 ≤ length s
+  pub value-order : base + getD table (4 * k + 2) 0 ≤ base + getD table (4 * k + 3) 0
+  pub value-in : base + getD table (4 * k + 3) 0 ≤ length s
+
+module _ (s : Bytes) (base : ℕ) (table : List ℕ) where
+  placed-from : (i j rel : ℕ) (l : List Attribute) (after : Bytes) (rest : List ℕ) → GoodEach l → drop (base + rel) s ≡ spellAttributes l ++ after → drop (4 * j) table ≡ places rel l ++ rest → i < length l → PlacedAt s base table (j + i)
+  placed-from i j rel [] after rest g a b h = absurd (omega arith)
+  placed-from zero j rel (x ∷ l) after rest g a b h =
+      let r = by-table s base table (j + suc (length l)) j [] (placeOf (base + rel) (x ∷ l) []) rel (base + rel) x l after rest (each-but g) a b refl refl refl in
+      subst (PlacedAt s base table) (sym (add-zero j)) (record { long = r .long; name-order = r .name-order; name-in = r .name-in; value-order = r .value-order; value-in = r .value-in })
+  placed-from (suc i) j rel (x ∷ l) after rest g a b h =
+      let n : j + 1 + i ≡ j + suc i = omega arith in
+      subst (PlacedAt s base table) n (placed-from i (j + 1) (valueEnd rel x + 1) l after rest (each-but g) (stands-next s base table (j + suc (length l)) j [] (placeOf (base + rel) (x ∷ l) []) rel (base + rel) x l after rest (each-but g) a b refl refl refl) (rows-next s base table (j + suc (length l)) j [] (placeOf (base + rel) (x ∷ l) []) rel (base + rel) x l after rest (each-but g) a b refl refl refl) (omega arith))
+
+pub placed-at : {s : Bytes} {base : ℕ} {table : List ℕ} {count i : ℕ} → Held s base table count → i < count → PlacedAt s base table i
+placed-at {s} {base} {table} {count} {i} h lt = let z : 0 + i ≡ i = omega arith in subst (PlacedAt s base table) z (placed-from s base table i 0 0 (h .attributes) (h .after) (h .rest) (h .good) (ap (λ (n : ℕ). drop n s) (add-zero base) ∙ h .stand) (h .rows) (let c = h .counts in omega arith))
+
+none-of : (a b : Bool) → a || b ≡ false → (a ≡ false) × (b ≡ false)
+none-of true b e = clash e
+none-of false b e = (refl, e)
+
+-- names that are not the same one way are not the same the other way
+other-way : (x y : Bytes) → same x y ≡ false → same y x ≡ false
+other-way x y e = go (same y x) refl
+  where
+    go : (z : Bool) → same y x ≡ z → same y x ≡ false
+    go true f = let q : x ≡ y = same-true y x f in clash (sym f ∙ ap (λ (n : Bytes). same n x) (sym q) ∙ ap (λ (n : Bytes). same x n) q ∙ e)
+    go false f = f
+
+-- no name stands twice: where the attribute i of those that are left has the name, its value is that of the name, and none of the earlier has the name
+module _ (s : Bytes) (base : ℕ) (table : List ℕ) (name : Bytes) where
+  abbrev Told : ℕ → Words → Type 0
+  Told k w = w ≡ Present (record { start = base + getD table (4 * k + 2) 0; len = base + getD table (4 * k + 3) 0 - (base + getD table (4 * k + 2) 0) })
+
+  abbrev Hits : ℕ → Type 0
+  Hits k = same name (take (base + getD table (4 * k + 1) 0 - (base + getD table (4 * k) 0)) (drop (base + getD table (4 * k) 0) s)) ≡ true
+
+  guess-at : (i j rel : ℕ) (l : List Attribute) (after : Bytes) (rest : List ℕ) (earlier : List Bytes) → GoodEach l → fresh earlier l ≡ true → drop (base + rel) s ≡ spellAttributes l ++ after → drop (4 * j) table ≡ places rel l ++ rest → i < length l → Hits (j + i)
+      → Told (j + i) (placeOf (base + rel) l name) × (among earlier name ≡ false)
+  unfolding placeOf
+  guess-at i j rel [] after rest earlier g f a b h k = absurd (omega arith)
+  guess-at zero j rel (x ∷ l) after rest earlier g f a b h k = (subst (λ (n : ℕ). Told n (placeOf (base + rel) (x ∷ l) name)) (sym (add-zero j)) (row .hit hit), ap (among earlier) is ∙ not-true (among earlier (x .name)) (and-left (not (among earlier (x .name))) (fresh (x .name ∷ earlier) l) f))
+    where
+      hit : Hits j
+      hit = subst Hits (add-zero j) k
+
+      row : RowAt s base table (j + suc (length l)) j name (placeOf (base + rel) (x ∷ l) name) (base + getD table (4 * j) 0) (base + getD table (4 * j + 1) 0) (base + getD table (4 * j + 2) 0) (base + getD table (4 * j + 3) 0)
+      row = by-table s base table (j + suc (length l)) j name (placeOf (base + rel) (x ∷ l) name) rel (base + rel) x l after rest (each-but g) a b refl refl refl
+
+      is : name ≡ x .name
+      is = sym (same-true name (x .name) (ap (same name) (sym (called s base table (j + suc (length l)) j name (placeOf (base + rel) (x ∷ l) name) rel (base + rel) x l after rest (each-but g) a b refl refl refl)) ∙ hit))
+  guess-at (suc i) j rel (x ∷ l) after rest earlier g f a b h k =
+      let n : j + suc i ≡ j + 1 + i = omega arith in
+      let (p, q) = guess-at i (j + 1) (valueEnd rel x + 1) l after rest (x .name ∷ earlier) (each-but g) (and-right (not (among earlier (x .name))) (fresh (x .name ∷ earlier) l) f) (stands-next s base table (j + suc (length l)) j name (placeOf (base + rel) (x ∷ l) name) rel (base + rel) x l after rest (each-but g) a b refl refl refl) (rows-next s base table (j + suc (length l)) j name (placeOf (base + rel) (x ∷ l) name) rel (base + rel) x l after rest (each-but g) a b refl refl refl) (omega arith) (subst Hits n k) in
+      let (y, z) = none-of (same (x .name) name) (among earlier name) q in
+      let e : base + (valueEnd rel x + 1) ≡ valueEnd (base + rel) x + 1 = omega arith in
+      (ap (λ (b : Bool). cond b (Present (record { start = valueAt (base + rel) x; len = length (spellValue (x .value)) })) (placeOf (valueEnd (base + rel) x + 1) l name)) (other-way (x .name) name y) ∙ ap (λ (n : ℕ). placeOf n l name) (sym e) ∙ subst (λ (m : ℕ). Told m (placeOf (base + (valueEnd rel x + 1)) l name)) (sym n) p, z)
+
+  pub guessed : {count i : ℕ} {r : Bool} {w : Words} (h : Held s base table count) → i < count → Called s base table i name r → r ≡ true → Lies base table i w → w ≡ place h name
+  guessed {count} {i} h lt e t q =
+      let z : i ≡ 0 + i = omega arith in
+      let z′ : 0 + i ≡ i = omega arith in
+      q ∙ sym (subst (λ (k : ℕ). Told k (placeOf (base + 0) (h .attributes) name)) z′ (guess-at i 0 0 (h .attributes) (h .after) (h .rest) [] (h .good) (h .fresh-names) (ap (λ (n : ℕ). drop n s) (add-zero base) ∙ h .stand) (h .rows) (let c = h .counts in omega arith) (subst Hits z (sym e ∙ t)) .0)) ∙ ap (λ (n : ℕ). placeOf n (h .attributes) name) (add-zero base)

@@ -18,9 +18,10 @@ use Rattle.message.specs.Cells.{cellOf, cellsOf}
 use Rattle.message.specs.declared.values.Whole.the-variants.{Absent as NoWhole, Present as IsWhole}
 use Rattle.message.specs.declared.values.Measure.the-variants.{Absent as NoMeasure, Present as IsMeasure}
 use Rattle.reads.specs.Held.{Held, pairs, place}
-use Rattle.reads.specs.Children.{Holds}
-use Rattle.reads.specs.Kept.{keptOf, triedBy, keptIn, Rowed, AllRowed}
+use Rattle.reads.specs.Kept.{keptOf, triedBy, keptIn, Sorted, Rowed, AllRowed}
+use Rattle.reads.specs.declared.features.Sort.{Sort}
 use Rattle.reads.specs.declared.tried.Tried.{Tried}
+use Rattle.reads.proofs.TableLaws.{Fed}
 
 -- a cell is three numbers
 pub three : (x : Field) (l : List ℕ) → cellOf x ++ l ≡ getD (cellOf x) 0 0 ∷ getD (cellOf x) 1 0 ∷ getD (cellOf x) 2 0 ∷ l
@@ -74,20 +75,20 @@ put-three l at x y z h = let a : at + 1 ≡ suc at = omega arith in let b : at +
 kept : (l : List ℕ) (at x y z : ℕ) → at + 3 ≤ length l → length (take at l ++ (x ∷ y ∷ z ∷ drop (at + 3) l)) ≡ length l
 kept l at x y z h = let a = length-append (take at l) (x ∷ y ∷ z ∷ drop (at + 3) l) in let b = length-take-le at l (omega arith) in let d = length-drop (at + 3) l in omega arith
 
-pub record Going (s : Bytes) (base : ℕ) (table : List ℕ) (count inside from n : ℕ) (before cells : List ℕ) (refusal i : ℕ) : Type 0 where
+pub record Going (s : Bytes) (base : ℕ) (table : List ℕ) (count : ℕ) (features : Tried) (from n : ℕ) (before cells : List ℕ) (refusal i : ℕ) : Type 0 where
   pub upto : i ≤ n
   pub long : length cells ≡ length before
-  pub refuses : (h : Held s base table count) (m : Bytes) (f : Forest) → Holds s inside f → first refusal (refusalOf (rowsFrom (from + i) (n - i)) (tree m (pairs h) f)) ≡ refusalOf (rowsFrom from n) (tree m (pairs h) f)
-  pub fills : (h : Held s base table count) (m : Bytes) (f : Forest) → Holds s inside f → Filled before cells i (cellsOf (keptIn (rowsFrom (from + i) (n - i)) (place h) (tree m (pairs h) f))) (cellsOf (keptIn (rowsFrom from n) (place h) (tree m (pairs h) f)))
+  pub refuses : (h : Held s base table count) (m : Bytes) (f : Forest) → Fed features from n f → first refusal (refusalOf (rowsFrom (from + i) (n - i)) (tree m (pairs h) f)) ≡ refusalOf (rowsFrom from n) (tree m (pairs h) f)
+  pub fills : (h : Held s base table count) (m : Bytes) (f : Forest) → Fed features from n f → Filled before cells i (cellsOf (keptIn (rowsFrom (from + i) (n - i)) (place h) (tree m (pairs h) f))) (cellsOf (keptIn (rowsFrom from n) (place h) (tree m (pairs h) f)))
 
-module _ (s : Bytes) (base : ℕ) (table : List ℕ) (count inside from n : ℕ) (before : List ℕ) where
-  pub loop-starts : Going s base table count inside from n before before 0 0
+module _ (s : Bytes) (base : ℕ) (table : List ℕ) (count : ℕ) (features : Tried) (from n : ℕ) (before : List ℕ) where
+  pub loop-starts : Going s base table count features from n before before 0 0
   loop-starts =
       let e : rowsFrom (from + 0) (n - 0) ≡ rowsFrom from n = (let a : from + 0 ≡ from = omega arith in let b : n - 0 ≡ n = omega arith in ap (λ (j : ℕ). rowsFrom j (n - 0)) a ∙ ap (rowsFrom from) b) in
       record { upto = omega arith; long = refl; refuses = λ h m f z. ap (λ (l : List Row). refusalOf l (tree m (pairs h) f)) e; fills = λ h m f z. record { front = []; are = refl; long = refl; joined = ap (λ (l : List Row). cellsOf (keptIn l (place h) (tree m (pairs h) f))) e } }
 
-  pub loop-goes-on : {cells cells′ : List ℕ} {refusal refusal′ i : ℕ} {t : Tried} → Going s base table count inside from n before cells refusal i → i < n → Rowed s base table count inside (codedAt (from + i)) t
-      → cells′ ≡ take (3 * i) cells ++ (t .there ∷ t .a ∷ t .b ∷ drop (3 * i + 3) cells) → 3 * i + 3 ≤ length cells → refusal′ ≡ first refusal (t .refusal) → Going s base table count inside from n before cells′ refusal′ (i + 1)
+  pub loop-goes-on : {cells cells′ : List ℕ} {refusal refusal′ i : ℕ} {t : Tried} → Going s base table count features from n before cells refusal i → i < n → Rowed s base table count features (codedAt (from + i)) t
+      → cells′ ≡ take (3 * i) cells ++ (t .there ∷ t .a ∷ t .b ∷ drop (3 * i + 3) cells) → 3 * i + 3 ≤ length cells → refusal′ ≡ first refusal (t .refusal) → Going s base table count features from n before cells′ refusal′ (i + 1)
   unfolding refusalOf
   loop-goes-on {cells} {cells′} {refusal} {refusal′} {i} {t} g h row e fits r = record { upto = omega arith; long = ap length e ∙ kept cells (3 * i) (t .there) (t .a) (t .b) fits ∙ g .long; refuses = refuses; fills = fills }
     where
@@ -97,33 +98,33 @@ module _ (s : Bytes) (base : ℕ) (table : List ℕ) (count inside from n : ℕ)
       line : Row
       line = rowOf (codedAt (from + i))
 
-      refuses : (h : Held s base table count) (m : Bytes) (f : Forest) → Holds s inside f → first refusal′ (refusalOf rest (tree m (pairs h) f)) ≡ refusalOf (rowsFrom from n) (tree m (pairs h) f)
-      refuses k m f z =
-          let q : t .refusal ≡ refusalIn (tried line (tree m (pairs k) f)) = ap (λ (t : Tried). t .refusal) (row .says k m f z) in
-          ap (λ (x : ℕ). first x (refusalOf rest (tree m (pairs k) f))) (r ∙ ap (first refusal) q)
-          ∙ first-assoc refusal (refusalIn (tried line (tree m (pairs k) f))) (refusalOf rest (tree m (pairs k) f))
-          ∙ ap (λ (l : List Row). first refusal (refusalOf l (tree m (pairs k) f))) (sym (next-row from n i h))
-          ∙ g .refuses k m f z
+      refuses : (h : Held s base table count) (m : Bytes) (f : Forest) → Fed features from n f → first refusal′ (refusalOf rest (tree m (pairs h) f)) ≡ refusalOf (rowsFrom from n) (tree m (pairs h) f)
+      refuses o m f z =
+          let q : t .refusal ≡ refusalIn (tried line (tree m (pairs o) f)) = ap (λ (t : Tried). t .refusal) (row .says o m f (z i h)) in
+          ap (λ (x : ℕ). first x (refusalOf rest (tree m (pairs o) f))) (r ∙ ap (first refusal) q)
+          ∙ first-assoc refusal (refusalIn (tried line (tree m (pairs o) f))) (refusalOf rest (tree m (pairs o) f))
+          ∙ ap (λ (l : List Row). first refusal (refusalOf l (tree m (pairs o) f))) (sym (next-row from n i h))
+          ∙ g .refuses o m f z
 
-      fills : (h : Held s base table count) (m : Bytes) (f : Forest) → Holds s inside f → Filled before cells′ (i + 1) (cellsOf (keptIn rest (place h) (tree m (pairs h) f))) (cellsOf (keptIn (rowsFrom from n) (place h) (tree m (pairs h) f)))
-      fills k m f z =
-          fill before cells i (t .there) (t .a) (t .b) (cellsOf (keptIn rest (place k) (tree m (pairs k) f))) (cellsOf (keptIn (rowsFrom from n) (place k) (tree m (pairs k) f))) cells′
-          (subst (λ (l : List ℕ). Filled before cells i l (cellsOf (keptIn (rowsFrom from n) (place k) (tree m (pairs k) f))))
-          (ap (λ (l : List Row). cellsOf (keptIn l (place k) (tree m (pairs k) f))) (next-row from n i h) ∙ next-cell line rest (place k) (tree m (pairs k) f) ∙ ap (λ (t : Tried). t .there ∷ t .a ∷ t .b ∷ cellsOf (keptIn rest (place k) (tree m (pairs k) f))) (sym (row .says k m f z)))
-          (g .fills k m f z)) e
+      fills : (h : Held s base table count) (m : Bytes) (f : Forest) → Fed features from n f → Filled before cells′ (i + 1) (cellsOf (keptIn rest (place h) (tree m (pairs h) f))) (cellsOf (keptIn (rowsFrom from n) (place h) (tree m (pairs h) f)))
+      fills o m f z =
+          fill before cells i (t .there) (t .a) (t .b) (cellsOf (keptIn rest (place o) (tree m (pairs o) f))) (cellsOf (keptIn (rowsFrom from n) (place o) (tree m (pairs o) f))) cells′
+          (subst (λ (l : List ℕ). Filled before cells i l (cellsOf (keptIn (rowsFrom from n) (place o) (tree m (pairs o) f))))
+          (ap (λ (l : List Row). cellsOf (keptIn l (place o) (tree m (pairs o) f))) (next-row from n i h) ∙ next-cell line rest (place o) (tree m (pairs o) f) ∙ ap (λ (t : Tried). t .there ∷ t .a ∷ t .b ∷ cellsOf (keptIn rest (place o) (tree m (pairs o) f))) (sym (row .says o m f (z i h))))
+          (g .fills o m f z)) e
 
-  pub loop-ends : {cells : List ℕ} {refusal i : ℕ} (kind : ℕ) → rowsOf kind ≡ rowsFrom from n → Going s base table count inside from n before cells refusal i → n ≤ i → AllRowed s base table count inside kind before cells refusal
+  pub loop-ends : {cells : List ℕ} {refusal i : ℕ} (k : Sort) → rowsOf (k .kind) ≡ rowsFrom from n → ((f : Forest) → Sorted k f → Fed features from n f) → Going s base table count features from n before cells refusal i → n ≤ i → AllRowed s base table count k before cells refusal
   unfolding refusalOf cellsOf keptIn
-  loop-ends {cells} {refusal} {i} kind e g h = record { refusal = refuses; cells = fills }
+  loop-ends {cells} {refusal} {i} k e fed g h = record { refusal = refuses; cells = fills }
     where
-      refuses : (h : Held s base table count) (m : Bytes) (f : Forest) → Holds s inside f → refusal ≡ refusalOf (rowsOf kind) (tree m (pairs h) f)
-      refuses k m f z = sym (first-zero refusal) ∙ ap (λ (l : List Row). first refusal (refusalOf l (tree m (pairs k) f))) (sym (no-row from n i h)) ∙ g .refuses k m f z ∙ ap (λ (l : List Row). refusalOf l (tree m (pairs k) f)) (sym e)
+      refuses : (h : Held s base table count) (m : Bytes) (f : Forest) → Sorted k f → refusal ≡ refusalOf (rowsOf (k .kind)) (tree m (pairs h) f)
+      refuses o m f z = sym (first-zero refusal) ∙ ap (λ (l : List Row). first refusal (refusalOf l (tree m (pairs o) f))) (sym (no-row from n i h)) ∙ g .refuses o m f (fed f z) ∙ ap (λ (l : List Row). refusalOf l (tree m (pairs o) f)) (sym e)
 
-      fills : (h : Held s base table count) (m : Bytes) (f : Forest) → Holds s inside f → cells ≡ cellsOf (keptIn (rowsOf kind) (place h) (tree m (pairs h) f)) ++ drop (3 * length (rowsOf kind)) before
-      fills k m f z =
-          let x = g .fills k m f z in
+      fills : (h : Held s base table count) (m : Bytes) (f : Forest) → Sorted k f → cells ≡ cellsOf (keptIn (rowsOf (k .kind)) (place h) (tree m (pairs h) f)) ++ drop (3 * length (rowsOf (k .kind))) before
+      fills o m f z =
+          let x = g .fills o m f (fed f z) in
           let u = g .upto in
-          let len : length (rowsOf kind) ≡ n = ap length e ∙ length-rows from n in
-          let w : 3 * i ≡ 3 * length (rowsOf kind) = omega arith in
-          let all : x .front ≡ cellsOf (keptIn (rowsOf kind) (place k) (tree m (pairs k) f)) = sym (append-nil (x .front)) ∙ ap (λ (l : List Row). x .front ++ cellsOf (keptIn l (place k) (tree m (pairs k) f))) (sym (no-row from n i h)) ∙ x .joined ∙ ap (λ (l : List Row). cellsOf (keptIn l (place k) (tree m (pairs k) f))) (sym e) in
-          x .are ∙ ap (λ (l : List ℕ). l ++ drop (3 * i) before) all ∙ ap (λ (j : ℕ). cellsOf (keptIn (rowsOf kind) (place k) (tree m (pairs k) f)) ++ drop j before) w
+          let len : length (rowsOf (k .kind)) ≡ n = ap length e ∙ length-rows from n in
+          let w : 3 * i ≡ 3 * length (rowsOf (k .kind)) = omega arith in
+          let all : x .front ≡ cellsOf (keptIn (rowsOf (k .kind)) (place o) (tree m (pairs o) f)) = sym (append-nil (x .front)) ∙ ap (λ (l : List Row). x .front ++ cellsOf (keptIn l (place o) (tree m (pairs o) f))) (sym (no-row from n i h)) ∙ x .joined ∙ ap (λ (l : List Row). cellsOf (keptIn l (place o) (tree m (pairs o) f))) (sym e) in
+          x .are ∙ ap (λ (l : List ℕ). l ++ drop (3 * i) before) all ∙ ap (λ (j : ℕ). cellsOf (keptIn (rowsOf (k .kind)) (place o) (tree m (pairs o) f)) ++ drop j before) w

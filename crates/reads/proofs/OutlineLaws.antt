@@ -19,7 +19,7 @@ use Rattle.reader.specs.Outline.{childOf as inner, tagIn, lead, insideFrom}
 use Rattle.reader.specs.Answer.{paper, Accepted, RestOf, Outlined}
 use Rattle.reader.specs.Parts.{Parts, ContentAt, accepted-parts}
 use Rattle.reader.specs.declared.answer.Answer.{Answer}
-use Rattle.reader.specs.declared.answer.Answer.the-variants.{Ends}
+use Rattle.reader.specs.declared.answer.Answer.the-variants.{Ends, More, Malformed, TooLong}
 use Rattle.reader.specs.declared.answer.Outline.{Outline}
 use Rattle.value.specs.declared.text.Span.{Span}
 use Rattle.value.specs.declared.text.Words.the-variants.{Absent, Present}
@@ -90,6 +90,7 @@ module _ {s : Bytes} {start end from to count inside : ℕ} {old new : List ℕ}
     after = parts .after;
     rest = drop (4 * length (tagIn child .attributes)) old;
     good = good-tag good .attributes .each;
+    fresh-names = good-tag good .attributes .fresh-names;
     stand = parts .attributes;
     rows = a .table h;
     counts = a .lines .counts;
@@ -118,6 +119,19 @@ module _ {s : Bytes} {old new : List ℕ} {o : Outline} (p : Outlined s old new 
 
   pub answers : {a : Answer} → o .answer ≡ a → Answers s (paper a)
   answers e = subst (λ (a : Answer). Answers s (paper a)) e (p .answers)
+
+-- where the name of the root's child stands, or zeros
+outlined-name : (s : Bytes) (old new : List ℕ) (a : Answer) (from to count inside : ℕ) → RestOf s old new a from to count inside → (from ≤ to) × (to ≤ length s)
+outlined-name s old new (Ends start end) from to count inside r = (accepted-order r, accepted-in r)
+outlined-name s old new (More start) from to count inside r = let e = r .0 in let f = r .1 in (omega arith, omega arith)
+outlined-name s old new (Malformed start place) from to count inside r = let e = r .0 in let f = r .1 in (omega arith, omega arith)
+outlined-name s old new (TooLong start) from to count inside r = let e = r .0 in let f = r .1 in (omega arith, omega arith)
+
+pub outlined-order : {s : Bytes} {old new : List ℕ} {o : Outline} → Outlined s old new o → o .from ≤ o .to
+outlined-order {s} {old} {new} {o} p = outlined-name s old new (o .answer) (o .from) (o .to) (o .count) (o .inside) (p .rest) .0
+
+pub outlined-in : {s : Bytes} {old new : List ℕ} {o : Outline} → Outlined s old new o → o .to ≤ length s
+outlined-in {s} {old} {new} {o} p = outlined-name s old new (o .answer) (o .from) (o .to) (o .count) (o .inside) (p .rest) .1
 
 attributes-read : (l : Layout) → attributesOf (childOf (readLayout l)) ≡ readAttributes (tagIn (inner l) .attributes)
 attributes-read l = ap attributesOf (read-inner l) ∙ of (inner l)

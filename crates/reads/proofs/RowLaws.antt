@@ -25,7 +25,7 @@ use Rattle.message.specs.Fields.{Field, aWords}
 use Rattle.message.specs.Cells.{wordsCell, cellOf}
 use Rattle.message.specs.Handed.{attributesOf}
 use Rattle.reads.specs.Held.{Held, pairs, place, Found, Tries}
-use Rattle.reads.specs.Kept.{asCell, lacking, intOf, sizeOf, featuresOf, keptOf, triedAs, Judges, RowJudges, Rowed, ChildTries}
+use Rattle.reads.specs.Kept.{asCell, lacking, intOf, sizeOf, featuresOf, keptOf, triedAs, Judges, RowJudges, Rowed, carriedBy}
 use Rattle.reads.specs.declared.tried.Tried.{Tried}
 use Rattle.reads.proofs.FieldLaws.{there, tries-absent, tries-present}
 
@@ -127,18 +127,21 @@ is-attribute c other = ap (λ (b : Bool). cond b features (attributeForm (c .for
 is-plain : (c : Coded) → (c .form ≡ 0 → ⊥) → plain (formOf c) ≡ true
 is-plain c other = ap plain (is-attribute c other) ∙ attribute-plain (c .form) (c .low) (c .high)
 
-module _ {s : Bytes} {base : ℕ} {table : List ℕ} {count : ℕ} (inside : ℕ) (c : Coded) (other : c .form ≡ 0 → ⊥) where
-  rowed : {r : Tried} → Tries (triedAs (formOf c)) (formOf c) (eqb (c .need) 1) s base table count (nameAt (c .line) (c .len)) r → Rowed s base table count inside c r
+pub is-child : (c : Coded) → c .form ≡ 0 → plain (formOf c) ≡ false
+is-child c e = ap (λ (b : Bool). plain (cond b features (attributeForm (c .form) (c .low) (c .high)))) (eq-eqb (c .form) 0 e)
+
+module _ {s : Bytes} {base : ℕ} {table : List ℕ} {count : ℕ} (carried : Tried) (c : Coded) (other : c .form ≡ 0 → ⊥) where
+  rowed : {r : Tried} → Tries (triedAs (formOf c)) (formOf c) (eqb (c .need) 1) s base table count (nameAt (c .line) (c .len)) r → Rowed s base table count carried c r
   rowed x = record { says = λ h m f z. x .says h ∙ sym (ap (triedAs (formOf c) (place h (nameAt (c .line) (c .len)))) (tried-given (formOf c) (nameAt (c .line) (c .len)) (cond (eqb (c .need) 1) optional required) (eqb (c .need) 1) (tree m (pairs h) f) refl (is-plain c other))) }
 
   named : {n : Bytes} {w : Words} → n ≡ nameAt (c .line) (c .len) → Found s base table count n w → Found s base table count (nameAt (c .line) (c .len)) w
   named {n} {w} q found = subst (λ (n : Bytes). Found s base table count n w) q found
 
-  pub absent-rowed : {r : Tried} {n : Bytes} {w : Words} → n ≡ nameAt (c .line) (c .len) → Found s base table count n w → w ≡ Absent → r ≡ lacking (eqb (c .need) 1) → Rowed s base table count inside c r
+  pub absent-rowed : {r : Tried} {n : Bytes} {w : Words} → n ≡ nameAt (c .line) (c .len) → Found s base table count n w → w ≡ Absent → r ≡ lacking (eqb (c .need) 1) → Rowed s base table count carried c r
   absent-rowed y found e q = rowed (tries-absent (named y found) (triedAs (formOf c)) (formOf c) (eqb (c .need) 1) e (q ∙ sym (absent-row (formOf c) (eqb (c .need) 1) (is-plain c other)) ∙ ap (λ (w : Words). triedAs (formOf c) w (without (eqb (c .need) 1))) (sym e)))
 
   pub present-rowed : {r : Tried} {n : Bytes} {w : Words} → n ≡ nameAt (c .line) (c .len) → Found s base table count n w → Held s base table count → (p : Span) → w ≡ Present p
-      → RowJudges (c .form) (c .low) (c .high) (take (p .start + p .len - p .start) (drop (p .start) s)) (p .start) r → Rowed s base table count inside c r
+      → RowJudges (c .form) (c .low) (c .high) (take (p .start + p .len - p .start) (drop (p .start) s)) (p .start) r → Rowed s base table count carried c r
   present-rowed y found held p e j = rowed (tries-present (named y found) (triedAs (formOf c)) (formOf c) (eqb (c .need) 1) p e (λ l x. j .says l x ∙ sym (ap (λ (t : Form). triedAs t (at (p .start) (take (p .start + p .len - p .start) (drop (p .start) s))) (judged t (readValue l))) (is-attribute c other)) ∙ ap (λ (n : ℕ). triedAs (formOf c) (Present (record { start = p .start; len = n })) (judged (formOf c) (readValue l))) long))
     where
       long : length (take (p .start + p .len - p .start) (drop (p .start) s)) ≡ p .len
@@ -148,10 +151,10 @@ module _ {s : Bytes} {base : ℕ} {table : List ℕ} {count : ℕ} (inside : ℕ
           length-take-le (p .start + p .len - p .start) (drop (p .start) s) (omega arith) ∙ (let y : p .start + p .len - p .start ≡ p .len = omega arith in y)
 
 -- the row that is a child
-pub child-rowed : {s : Bytes} {base : ℕ} {table : List ℕ} {count : ℕ} (inside : ℕ) (c : Coded) {r : Tried} {n : Bytes} → c .form ≡ 0 → n ≡ nameAt (c .line) (c .len) → ChildTries s inside n (eqb (c .need) 1) r → Rowed s base table count inside c r
+pub child-rowed : {s : Bytes} {base : ℕ} {table : List ℕ} {count : ℕ} (found : Tried) (c : Coded) {r : Tried} → c .form ≡ 0 → r ≡ carriedBy found (eqb (c .need) 1) → Rowed s base table count found c r
 unfolding keptOf tried
-child-rowed {s} inside c {r} e q x = record {
-  says = λ h m f z. subst (λ (n : Bytes). ChildTries s inside n (eqb (c .need) 1) r) q x .says f z ∙ sym (
+child-rowed found c {r} e q = record {
+  says = λ h m f z. q ∙ z e (eqb (c .need) 1) ∙ sym (
       ap (λ (t : Form). triedAs t (place h (nameAt (c .line) (c .len))) (tried (record { name = nameAt (c .line) (c .len); form = t; need = cond (eqb (c .need) 1) optional required }) (tree m (pairs h) f))) is
       ∙ ap featuresOf (by-flag (eqb (c .need) 1) (λ o. featured (nameAt (c .line) (c .len)) o f)));
 }

@@ -18,8 +18,9 @@ use Rattle.table.specs.Says.{refusalOf, childOf, childrenOf, nameOf, saidOf}
 use Rattle.message.specs.Checked.{placeOf, placesIn}
 use Rattle.message.specs.Cells.{cellsOf}
 use Rattle.reads.specs.Held.{pairs, place}
-use Rattle.reads.specs.Kept.{keptIn, AllRowed}
+use Rattle.reads.specs.Kept.{keptIn, Sorted, Sorts, AllRowed}
 use Rattle.reads.specs.Whole.{outcomeOf, cellsIn, CellsChecked, ends, more, malformed, too-long}
+use Rattle.reads.specs.declared.features.Sort.{Sort}
 use Rattle.reads.specs.declared.whole.Outcome.{Outcome}
 use Rattle.reads.proofs.OutlineLaws.{child, parts, accepted, answers, accepted-held, accepted-holds, read-inner, tree-of, name-of}
 
@@ -33,28 +34,28 @@ module _ {s : Bytes} {start end from to count inside : ℕ} {old new : List ℕ}
       ∙ ap (λ (n : Bytes). F (kindOf n) (placeOf to (tagIn (child a) .attributes)) (childOf (readLayout (a .layout)))) (sym (ap nameOf (read-inner (a .layout)) ∙ name-of (child a)))
       ∙ ap (λ (n : ℕ). F (saidOf (readLayout (a .layout)) .kind) (placeOf n (tagIn (child a) .attributes)) (childOf (readLayout (a .layout)))) (a .lines .ends)
 
-  module _ {k refusal : ℕ} {before after : List ℕ} (e : k ≡ kindOf (take (to - from) (drop from s))) (t : AllRowed s to new count inside k before after refusal) where
-    kind-is : k ≡ saidOf (readLayout (a .layout)) .kind
-    kind-is = e ∙ as-read (λ k p t. k)
+  module _ {k : Sort} {refusal : ℕ} {before after : List ℕ} (e : Sorts s from to inside k) (t : AllRowed s to new count k before after refusal) where
+    kind-is : k .kind ≡ saidOf (readLayout (a .layout)) .kind
+    kind-is = e .kind ∙ as-read (λ k p t. k)
 
     refusal-is : refusal ≡ saidOf (readLayout (a .layout)) .refusal
     refusal-is =
-        t .refusal (accepted-held a whole) (take (to - from) (drop from s)) (childrenOf (readElement (child a))) (accepted-holds a)
-        ∙ ap (λ (k : ℕ). refusalOf (rowsOf k) (tree (take (to - from) (drop from s)) (pairs (accepted-held a whole)) (childrenOf (readElement (child a))))) e
+        t .refusal (accepted-held a whole) (take (to - from) (drop from s)) (childrenOf (readElement (child a))) (e .features (childrenOf (readElement (child a))) (accepted-holds a))
+        ∙ ap (λ (k : ℕ). refusalOf (rowsOf k) (tree (take (to - from) (drop from s)) (pairs (accepted-held a whole)) (childrenOf (readElement (child a))))) (e .kind)
         ∙ as-read (λ k p t. refusalOf (rowsOf k) t)
         ∙ sym (ap (λ (rows : List Row). refusalOf rows (childOf (readLayout (a .layout)))) (rows-table (saidOf (readLayout (a .layout)) .kind) (childOf (readLayout (a .layout)))))
 
     cells-are : after ≡ cellsIn start (a .layout) before
     cells-are =
-        t .cells (accepted-held a whole) (take (to - from) (drop from s)) (childrenOf (readElement (child a))) (accepted-holds a)
-        ∙ ap (λ (k : ℕ). cellsOf (keptIn (rowsOf k) (place (accepted-held a whole)) (tree (take (to - from) (drop from s)) (pairs (accepted-held a whole)) (childrenOf (readElement (child a))))) ++ drop (3 * length (rowsOf k)) before) e
+        t .cells (accepted-held a whole) (take (to - from) (drop from s)) (childrenOf (readElement (child a))) (e .features (childrenOf (readElement (child a))) (accepted-holds a))
+        ∙ ap (λ (k : ℕ). cellsOf (keptIn (rowsOf k) (place (accepted-held a whole)) (tree (take (to - from) (drop from s)) (pairs (accepted-held a whole)) (childrenOf (readElement (child a))))) ++ drop (3 * length (rowsOf k)) before) (e .kind)
         ∙ as-read (λ k p t. cellsOf (keptIn (rowsOf k) p t) ++ drop (3 * length (rowsOf k)) before)
 
 module _ {s : Bytes} {old new : List ℕ} {o : Outline} (p : Outlined s old new o) where
-  pub cells-end : (start end : ℕ) {k refusal : ℕ} {before after : List ℕ} {r : Outcome} → length old ≡ 128 → o .answer ≡ Ends start end → k ≡ kindOf (take (o .to - o .from) (drop (o .from) s)) → AllRowed s (o .to) new (o .count) (o .inside) k before after refusal → r ≡ outcomeOf refusal k start end 0 → CellsChecked s before after r
+  pub cells-end : (start end : ℕ) {k : Sort} {refusal : ℕ} {before after : List ℕ} {r : Outcome} → length old ≡ 128 → o .answer ≡ Ends start end → Sorts s (o .from) (o .to) (o .inside) k → AllRowed s (o .to) new (o .count) k before after refusal → r ≡ outcomeOf refusal (k .kind) start end 0 → CellsChecked s before after r
   cells-end start end {k} whole e q t h =
       let a = accepted p e in
-      ends start end (answers p e) (a .layout) (a .laid) (h ∙ ap (λ (n : ℕ). outcomeOf n k start end 0) (refusal-is a whole q t) ∙ ap (λ (k : ℕ). outcomeOf (saidOf (readLayout (a .layout)) .refusal) k start end 0) (kind-is a whole q t)) (cells-are a whole q t)
+      ends start end (answers p e) (a .layout) (a .laid) (h ∙ ap (λ (n : ℕ). outcomeOf n (k .kind) start end 0) (refusal-is a whole q t) ∙ ap (λ (k : ℕ). outcomeOf (saidOf (readLayout (a .layout)) .refusal) k start end 0) (kind-is a whole q t)) (cells-are a whole q t)
 
   pub cells-more : (start : ℕ) {before : List ℕ} {r : Outcome} → o .answer ≡ More start → r ≡ outcomeOf 1 0 start 0 0 → CellsChecked s before before r
   cells-more start e h = more start (answers p e) h refl

@@ -2,23 +2,26 @@
 -- GUID, which has the place and the length of its raw value.
 use mathlib.Core.Path.{_≡_}
 use mathlib.Core.List.{List, [], _∷_, _++_}
-use mathlib.Core.Bool.{Bool}
-use Prim.Native.Nat.{ℕ, _*_}
-use lib.ListN.{length, drop, getD}
-use Rattle.grammar.specs.Bytes.{Bytes}
+use mathlib.Core.Bool.{Bool, cond}
+use Prim.Native.Nat.{ℕ, _-_, _*_}
+use lib.ListN.{length, take, drop, getD}
+use lib.Dec.{eqb}
+use Rattle.grammar.specs.Bytes.{Bytes, text}
 use Rattle.grammar.specs.Value.{Item, readValue}
 use Rattle.grammar.specs.Tree.{Tree, tree, Forest}
 use Rattle.value.specs.Loose.{Loose}
 use Rattle.value.specs.declared.text.Words.{Words}
 use Rattle.value.specs.declared.text.Words.the-variants.{Present}
-use Rattle.table.specs.Table.{Row, Form, words, someWords, whole, guid, version, positive, features, rowsOf}
+use Rattle.table.specs.Table.{Row, Form, words, someWords, whole, guid, version, positive, features, kindOf, rowsOf}
 use Rattle.table.specs.Says.{Result, present, without, refusalIn, judged, notes, featured, tried, refusalOf}
+use Rattle.lane.specs.Names.{ServiceDescription}
 use Rattle.rows.specs.Coding.{attributeForm, rowOf}
 use Rattle.rows.specs.declared.data.Row.{Row as Coded}
 use Rattle.message.specs.Fields.{Field, none, aWords, aWhole, aMeasure, aFeatures, wholeIn, measureIn, featuresIn}
 use Rattle.message.specs.Cells.{wholeCell, measureCell, featuresCell, cellOf, cellsOf}
 use Rattle.reads.specs.Held.{Held, pairs, place}
 use Rattle.reads.specs.Children.{Holds}
+use Rattle.reads.specs.declared.features.Sort.{Sort}
 use Rattle.reads.specs.declared.tried.Tried.{Tried}
 
 -- a refusal and a cell
@@ -68,18 +71,37 @@ pub record Judges {A : Type 0} (f : Result → A) (t : Form) (raw : Bytes) (r : 
 pub record RowJudges (k lo hi : ℕ) (raw : Bytes) (start : ℕ) (r : Tried) : Type 0 where
   pub says : (l : List Item) → Loose raw l → r ≡ triedAs (attributeForm k lo hi) (Present (record { start = start; len = length raw })) (judged (attributeForm k lo hi) (readValue l))
 
--- a row tried on the element that the table describes
-pub record Rowed (s : Bytes) (base : ℕ) (table : List ℕ) (count inside : ℕ) (c : Coded) (r : Tried) : Type 0 where
-  pub says : (h : Held s base table count) (m : Bytes) (f : Forest) → Holds s inside f → r ≡ triedBy (rowOf c) (place h) (tree m (pairs h) f)
-
--- the rows of a kind: the first refusal, and their cells in front of what was there
-pub record AllRowed (s : Bytes) (base : ℕ) (table : List ℕ) (count inside k : ℕ) (before after : List ℕ) (r : ℕ) : Type 0 where
-  pub refusal : (h : Held s base table count) (m : Bytes) (f : Forest) → Holds s inside f → r ≡ refusalOf (rowsOf k) (tree m (pairs h) f)
-  pub cells : (h : Held s base table count) (m : Bytes) (f : Forest) → Holds s inside f → after ≡ cellsOf (keptIn (rowsOf k) (place h) (tree m (pairs h) f)) ++ drop (3 * length (rowsOf k)) before
-
--- the features that stand in an element's content, and the first child of a name
+-- the features that stand in an element's content
 pub record NotesIn (s : Bytes) (inside : ℕ) (r : Tried) : Type 0 where
   pub says : (f : Forest) → Holds s inside f → r ≡ featuresOf (present (notes f))
 
-pub record ChildTries (s : Bytes) (inside : ℕ) (name : Bytes) (optional : Bool) (r : Tried) : Type 0 where
-  pub says : (f : Forest) → Holds s inside f → r ≡ featuresOf (featured name optional f)
+-- what was found of a child, held against its row's need; the first child of a name was looked for in f with that outcome
+abbrev pub carriedBy : Tried → Bool → Tried
+carriedBy t optional = cond (eqb (t .there) 0) (lacking optional) t
+
+abbrev pub Carried : Bytes → Tried → Forest → Type 0
+Carried name t f = (optional : Bool) → carriedBy t optional ≡ featuresOf (featured name optional f)
+
+abbrev pub SUPPORTED : Bytes
+SUPPORTED = text "SupportedFeatures"
+
+pub record Supports (s : Bytes) (inside : ℕ) (r : Tried) : Type 0 where
+  pub says : (f : Forest) → Holds s inside f → Carried SUPPORTED r f
+
+-- of an element of a kind with features they were looked for
+abbrev pub Sorted : Sort → Forest → Type 0
+Sorted r f = r .kind ≡ ServiceDescription → Carried SUPPORTED (r .features) f
+
+-- the kind of the element whose name stands there, and its features
+pub record Sorts (s : Bytes) (from to inside : ℕ) (r : Sort) : Type 0 where
+  pub kind : r .kind ≡ kindOf (take (to - from) (drop from s))
+  pub features : (f : Forest) → Holds s inside f → Sorted r f
+
+-- a row tried on the element that the table describes
+pub record Rowed (s : Bytes) (base : ℕ) (table : List ℕ) (count : ℕ) (found : Tried) (c : Coded) (r : Tried) : Type 0 where
+  pub says : (h : Held s base table count) (m : Bytes) (f : Forest) → (c .form ≡ 0 → Carried (rowOf c .name) found f) → r ≡ triedBy (rowOf c) (place h) (tree m (pairs h) f)
+
+-- the rows of a kind: the first refusal, and their cells in front of what was there
+pub record AllRowed (s : Bytes) (base : ℕ) (table : List ℕ) (count : ℕ) (k : Sort) (before after : List ℕ) (r : ℕ) : Type 0 where
+  pub refusal : (h : Held s base table count) (m : Bytes) (f : Forest) → Sorted k f → r ≡ refusalOf (rowsOf (k .kind)) (tree m (pairs h) f)
+  pub cells : (h : Held s base table count) (m : Bytes) (f : Forest) → Sorted k f → after ≡ cellsOf (keptIn (rowsOf (k .kind)) (place h) (tree m (pairs h) f)) ++ drop (3 * length (rowsOf (k .kind))) before

@@ -3,7 +3,10 @@ ghost use mathlib.Core.Path.{_≡_};
 ghost use lib.ListN.{replicate};
 ghost use Rattle.message.specs.Cells.{NUMBERS as MANY};
 ghost use Rattle.message.specs.Checked.{Checks};
+ghost use Rattle.reads.specs.Kept.{Sorts};
 ghost use Rattle.reads.specs.Whole.{Sketched, ChecksInto};
+use crate::features::Sort;
+use crate::features::sort_of;
 use crate::ids::take_id;
 use crate::whole::Outcome;
 use crate::whole::tell;
@@ -37,13 +40,20 @@ fn told(o: Outcome, id: [u8; 36]) -> Found
     }
 }
 
-/// Tries the attributes of the message that an outline found in s, with the places that it put into the table. What the message says stands in the cells
-/// then; they stay zeros if it is refused. It stands apart from the outline, so that the stack of both is not needed at once.
-pub fn check_outlined(s: &[u8], sketch: Outline, table: &[u16], cells: &mut [u64]) -> Found
-    requires { ⌜ (now cells ≡ replicate MANY 0) × Sketched (now s) (now table) sketch ⌝ }
+/// Tries the attributes of the message that an outline found in s, with its kind and features, and with the places that the outline put into the table. What
+/// the message says stands in the cells then; they stay zeros if it is refused. It stands apart from the outline and the features, so that the stack of all is
+/// not needed at once.
+pub fn check_outlined(
+    s: &[u8],
+    sketch: Outline,
+    sort: Sort,
+    table: &[u16],
+    cells: &mut [u64],
+) -> Found
+    requires { ⌜ (now cells ≡ replicate MANY 0) × Sketched (now s) (now table) sketch × Sorts (now s) (sketch .from) (sketch .to) (sketch .inside) sort ⌝ }
     ensures { λ r. ⌜ ChecksInto (now (s .entry)) (now (cells .exit)) r ⌝ }
 {
-    let o = tell(s, sketch, table, &mut *cells);
+    let o = tell(s, sketch, sort, table, &mut *cells);
     if o.refusal == 0 {
         let id = take_id(s, o.kind, &mut *cells);
         return told(o, id);
@@ -59,7 +69,8 @@ pub fn check_into(s: &[u8], cells: &mut [u64]) -> Found
 {
     let mut table = [0u16; PLACES];
     let o = reader::outline(s, &mut table);
-    check_outlined(s, o, &table, cells)
+    let k = sort_of(s, o.from, o.to, o.inside);
+    check_outlined(s, o, k, &table, cells)
 }
 
 /// Reads the message behind the glue in front of s, and tries its attributes.

@@ -1,7 +1,7 @@
 // What a message says. One loop tries the rows of a message's kind on its tag, and puts down a cell of three numbers for each; a message that is not
 // refused is handed out as its kind, its cells and its BoardId.
 mod checking;
-mod features;
+pub mod features;
 pub mod find;
 mod first;
 mod ids;

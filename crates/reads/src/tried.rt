@@ -4,7 +4,7 @@ ghost use mathlib.Core.List.{[], _∷_};
 ghost use lib.Dec.{eqb};
 ghost use Rattle.value.specs.declared.text.Words.the-variants.{Present};
 ghost use Rattle.message.specs.Cells.{wordsCell};
-ghost use Rattle.reads.specs.Kept.{asCell, lacking};
+ghost use Rattle.reads.specs.Kept.{asCell, lacking, carriedBy};
 
 /// A row tried: its refusal, and the three numbers of its cell.
 pub struct Tried {
@@ -46,4 +46,14 @@ pub fn missing(need: u64) -> Tried
         return number(0, 0, 0);
     }
     number(4, 0, 0)
+}
+
+/// A child that was looked for before.
+pub fn carried(found: Tried, need: u64) -> Tried
+    ensures { λ r. ⌜ r ≡ carriedBy found (eqb need 1) ⌝ }
+{
+    if found.there == 0 {
+        return missing(need);
+    }
+    found
 }

@@ -3,34 +3,35 @@ ghost use mathlib.Core.Path.{_≡_};
 ghost use Rattle.rows.specs.Coding.{names as letters, Sound};
 ghost use Rattle.reads.specs.Held.{Held};
 ghost use Rattle.reads.specs.Kept.{Rowed};
-use crate::features::try_child;
 use crate::find::find;
 use crate::judge::judged;
 use crate::tried::Tried;
+use crate::tried::carried;
 use crate::tried::missing;
 use rows::data::Row;
 use rows::data::name_at;
 use value::Words;
 
-/// A row tried: its attribute, or its child.
+/// A row tried: its attribute, for which the attribute `guess` is looked at first; or its child, which was looked for before.
 pub fn try_row(
     s: &[u8],
     base: usize,
     table: &[u16],
     count: usize,
-    inside: usize,
+    guess: usize,
+    features: Tried,
     names: &[u8],
     row: Row,
 ) -> Tried
     requires { ⌜ Held (now s) base (now table) count × (now names ≡ letters) × Sound row ⌝ }
-    ensures { λ r. ⌜ Rowed (now (s .entry)) base (now (table .entry)) count inside row r ⌝ }
+    ensures { λ r. ⌜ Rowed (now (s .entry)) base (now (table .entry)) count features row r ⌝ }
 {
-    let name = name_at(names, row.line as usize, row.len as usize);
     let form = row.form;
     if form == 0 {
-        return try_child(s, inside, names, name, row.need);
+        return carried(features, row.need);
     }
-    let w = find(s, base, table, count, name);
+    let name = name_at(names, row.line as usize, row.len as usize);
+    let w = find(s, base, table, count, guess, name);
     let Words::Present(p) = w else {
         return missing(row.need);
     };

@@ -1,9 +1,8 @@
 -- Each answer by the outline.
 use mathlib.Core.Path.{refl, sym}
-use native.Mathlib.Omega.{arith}
 use Rattle.table.specs.Table.{table}
 use Rattle.rows.specs.Coding.{numbers, names}
-use Rattle.reads.proofs.OutlineLaws.{accepted, accepted-order, accepted-in, accepted-held, accepted-long}
+use Rattle.reads.proofs.OutlineLaws.{accepted, accepted-held, accepted-long, outlined-order, outlined-in}
 use Rattle.decides.proofs.DecideLaws.{decides-end, decides-more, decides-malformed, decides-too-long}
 use borrow.Author.Needs.{needs}
 use Rattle.decides.proofs.decided.Statement.{statement}
@@ -18,20 +17,11 @@ outline-requires c κs = search needs
 enum-known-a : tie.Need-enum-known-a
 enum-known-a c = search needs
 
-sub-kind-named : tie.Need-sub-kind-named
-sub-kind-named c = accepted-order (accepted (c .before .before .before .before .outline .ensures) (c .before .a .given .1))
-
-part-kind-named-start : tie.Need-part-kind-named-start
-part-kind-named-start c = let o = accepted-order (accepted (c .before .before .before .before .outline .ensures) (c .before .a .given .1)) in let w = accepted-in (accepted (c .before .before .before .before .outline .ensures) (c .before .a .given .1)) in omega arith
-
-part-kind-named-end : tie.Need-part-kind-named-end
-part-kind-named-end c = let o = accepted-order (accepted (c .before .before .before .before .outline .ensures) (c .before .a .given .1)) in let w = accepted-in (accepted (c .before .before .before .before .outline .ensures) (c .before .a .given .1)) in omega arith
-
-kind-named-requires : tie.Need-kind-named-requires
-kind-named-requires c κs = search needs
+sort-of-requires : tie.Need-sort-of-requires
+sort-of-requires c κs = (outlined-order (c .before .before .before .before .outline .ensures), outlined-in (c .before .before .before .before .outline .ensures))
 
 slice-aggregate-rule : tie.Need-slice-aggregate-rule
-slice-aggregate-rule c = sym (accepted-long (accepted (c .before .before .before .before .before .before .before .outline .ensures) (c .before .before .before .before .a .given .1)) refl)
+slice-aggregate-rule c = sym (accepted-long (accepted (c .before .before .before .before .before .before .outline .ensures) (c .before .before .before .a .given .1)) refl)
 
 slice-aggregate-rule-2 : tie.Need-slice-aggregate-rule-2
 slice-aggregate-rule-2 c = search needs
@@ -41,7 +31,7 @@ slice-aggregate-rule-3 c = search needs
 
 rule-requires : tie.Need-rule-requires
 unfolding numbers names table
-rule-requires c κs = (accepted-held (accepted (c .before .before .before .before .before .before .before .before .before .outline .ensures) (c .before .before .before .before .before .before .a .given .1)) refl, refl, refl)
+rule-requires c κs = (accepted-held (accepted (c .before .before .before .before .before .before .before .before .outline .ensures) (c .before .before .before .before .before .a .given .1)) refl, refl, refl)
 
 made-requires : tie.Need-made-requires
 made-requires c κs = search needs
@@ -65,7 +55,7 @@ unread-requires-3 : tie.Need-unread-requires-3
 unread-requires-3 c κs = search needs
 
 returns : tie.Need-returns
-returns c = decides-end (c .before .before .before .before .before .before .before .before .before .before .before .outline .ensures) (c .before .before .before .before .before .before .before .before .a .given .0 .0) (c .before .before .before .before .before .before .before .before .a .given .0 .1 .0) refl (c .before .before .before .before .before .before .before .before .a .given .1) (c .before .before .before .before .before .kind-named .ensures) (c .before .rule .ensures) (c .made .ensures)
+returns c = decides-end (c .before .before .before .before .before .before .before .before .before .before .outline .ensures) (c .before .before .before .before .before .before .before .a .given .0 .0) (c .before .before .before .before .before .before .before .a .given .0 .1 .0) refl (c .before .before .before .before .before .before .before .a .given .1) (c .before .before .before .before .before .sort-of .ensures) (c .before .rule .ensures) (c .made .ensures)
 
 returns-2 : tie.Need-returns-2
 returns-2 c = decides-more (c .before .before .before .before .before .outline .ensures) (c .before .before .a2 .given .0 .0) (c .before .before .a2 .given .1) (c .unread .ensures)
@@ -77,28 +67,4 @@ returns-4 : tie.Need-returns-4
 returns-4 c = decides-too-long (c .before .before .before .before .before .outline .ensures) (c .before .before .a4 .given .0 .0) (c .before .before .a4 .given .1) (c .unread3 .ensures)
 
 pub decided-spec : {M : Type 1} → statement M
-decided-spec =
-    tie.close
-    (tie.spec
-    slice-aggregate-outline
-    outline-requires
-    enum-known-a
-    sub-kind-named
-    part-kind-named-start
-    part-kind-named-end
-    kind-named-requires
-    slice-aggregate-rule
-    slice-aggregate-rule-2
-    slice-aggregate-rule-3
-    rule-requires
-    made-requires
-    enum-known-a-2
-    unread-requires
-    enum-known-a-3
-    unread-requires-2
-    enum-known-a-4
-    unread-requires-3
-    returns
-    returns-2
-    returns-3
-    returns-4)
+decided-spec = tie.close (tie.spec slice-aggregate-outline outline-requires enum-known-a sort-of-requires slice-aggregate-rule slice-aggregate-rule-2 slice-aggregate-rule-3 rule-requires made-requires enum-known-a-2 unread-requires enum-known-a-3 unread-requires-2 enum-known-a-4 unread-requires-3 returns returns-2 returns-3 returns-4)

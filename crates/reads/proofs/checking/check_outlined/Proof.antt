@@ -5,15 +5,9 @@ use Rattle.reads.proofs.CheckLaws.{into-accepted, into-refused, all-cel
 use borrow.Author.Needs.{needs}
 use Rattle.reads.proofs.checking.check_outlined.Statement.{statement}
 use Rattle.reads.proofs.checking.check_outlined.Tie as tie
-use Rattle.reads.proofs.checking.check_outlined.Reads as reads
-use Rattle.reads.proofs.checking.check_outlined.Lts as lts
-use Rattle.reads.proofs.checking.told.Reads as told-reads
-use Rattle.reads.proofs.ids.take_id.Reads as take-id-reads
-use Rattle.reads.proofs.whole.tell.Reads as tell-reads
-use Rattle.cells.proofs.clear.Reads as clear-reads
 
 tell-requires : tie.Need-tell-requires
-tell-requires c κs = let n = all-cells (c .before .before .before .before .pre .0) in (omega arith, c .before .before .before .before .pre .1)
+tell-requires c κs = let n = all-cells (c .before .before .before .before .pre .0) in (omega arith, c .before .before .before .before .pre .1, c .before .before .before .before .pre .2)
 
 take-id-requires : tie.Need-take-id-requires
 take-id-requires c κs = let n = all-cells (c .before .before .before .before .before .before .before .before .before .before .pre .0) in omega arith
@@ -37,18 +31,7 @@ same-length-2 : tie.Need-same-length-2
 same-length-2 c = search needs
 
 returns-2 : tie.Need-returns-2
-returns-2 c = into-refused (c .before .before .before .before .before .before .before .before .before .tell .ensures) (c .before .before .before .before .before .if1 .left) (cleared-so (length (c .before .before .before .before .before .before .before .before .before .tell .last .1 .1 .1 .0)) (c .before .before .before .clear .ensures) (let n = all-cells (c .before .before .before .before .before .before .before .before .before .before .before .before .before .before .pre .0) in omega arith)) (c .told2 .ensures)
+returns-2 c = into-refused (c .before .before .before .before .before .before .before .before .before .tell .ensures) (c .before .before .before .before .before .if1 .left) (cleared-so (length (c .before .before .before .before .before .before .before .before .before .tell .last .1 .1 .1 .1 .0)) (c .before .before .before .clear .ensures) (let n = all-cells (c .before .before .before .before .before .before .before .before .before .before .before .before .before .before .pre .0) in omega arith)) (c .told2 .ensures)
 
 pub check-outlined-spec : {M : Type 1} → statement M
-check-outlined-spec =
-    tie.close
-    (tie.spec
-    tell-requires
-    take-id-requires
-    told-requires
-    same-length
-    returns
-    clear-requires
-    told-requires-2
-    same-length-2
-    returns-2)
+check-outlined-spec = tie.close (tie.spec tell-requires take-id-requires told-requires same-length returns clear-requires told-requires-2 same-length-2 returns-2)

@@ -1,9 +1,8 @@
 -- Each answer by the outline.
-use mathlib.Core.Path.{refl, sym}
-use native.Mathlib.Omega.{arith}
+use mathlib.Core.Path.{refl}
 use Rattle.table.specs.Table.{table}
 use Rattle.rows.specs.Coding.{numbers, names}
-use Rattle.reads.proofs.OutlineLaws.{accepted, accepted-order, accepted-in, accepted-held}
+use Rattle.reads.proofs.OutlineLaws.{accepted, accepted-held}
 use Rattle.reads.proofs.WholeLaws.{cells-end, cells-more, cells-malformed, cells-too-long}
 use borrow.Author.Needs.{needs}
 use Rattle.reads.proofs.whole.tell.Statement.{statement}
@@ -11,18 +10,6 @@ use Rattle.reads.proofs.whole.tell.Tie as tie
 
 enum-known-a : tie.Need-enum-known-a
 enum-known-a c = search needs
-
-sub-kind-named : tie.Need-sub-kind-named
-sub-kind-named c = accepted-order (accepted (c .before .before .before .before .before .before .pre .1 .outlined) (c .before .a .given .1))
-
-part-kind-named-start : tie.Need-part-kind-named-start
-part-kind-named-start c = let o = accepted-order (accepted (c .before .before .before .before .before .before .pre .1 .outlined) (c .before .a .given .1)) in let w = accepted-in (accepted (c .before .before .before .before .before .before .pre .1 .outlined) (c .before .a .given .1)) in omega arith
-
-part-kind-named-end : tie.Need-part-kind-named-end
-part-kind-named-end c = let o = accepted-order (accepted (c .before .before .before .before .before .before .pre .1 .outlined) (c .before .a .given .1)) in let w = accepted-in (accepted (c .before .before .before .before .before .before .pre .1 .outlined) (c .before .a .given .1)) in omega arith
-
-kind-named-requires : tie.Need-kind-named-requires
-kind-named-requires c κs = search needs
 
 slice-aggregate-check-rows : tie.Need-slice-aggregate-check-rows
 slice-aggregate-check-rows c = search needs
@@ -32,7 +19,7 @@ slice-aggregate-check-rows-2 c = search needs
 
 check-rows-requires : tie.Need-check-rows-requires
 unfolding numbers names table
-check-rows-requires c κs = (accepted-held (accepted (c .before .before .before .before .before .before .before .before .before .before .before .pre .1 .outlined) (c .before .before .before .before .before .before .a .given .1)) (c .before .before .before .before .before .before .before .before .before .before .before .pre .1 .whole), refl, refl, c .before .before .before .before .before .before .before .before .before .before .before .pre .0)
+check-rows-requires c κs = (accepted-held (accepted (c .before .before .before .before .before .before .before .before .before .pre .1 .outlined) (c .before .before .before .before .a .given .1)) (c .before .before .before .before .before .before .before .before .before .pre .1 .whole), refl, refl, c .before .before .before .before .before .before .before .before .before .pre .0)
 
 made-requires : tie.Need-made-requires
 made-requires c κs = search needs
@@ -59,7 +46,7 @@ same-length : tie.Need-same-length
 same-length c = search needs
 
 returns : tie.Need-returns
-returns c = cells-end (c .before .before .before .before .before .before .before .before .before .before .before .before .before .before .before .pre .1 .outlined) (c .before .before .before .before .before .before .before .before .before .before .a .given .0 .0) (c .before .before .before .before .before .before .before .before .before .before .a .given .0 .1 .0) (c .before .before .before .before .before .before .before .before .before .before .before .before .before .before .before .pre .1 .whole) (c .before .before .before .before .before .before .before .before .before .before .a .given .1) (c .before .before .before .before .before .before .before .kind-named .ensures) (c .before .before .before .check-rows .ensures) (c .made .ensures)
+returns c = cells-end (c .before .before .before .before .before .before .before .before .before .before .before .before .before .pre .1 .outlined) (c .before .before .before .before .before .before .before .before .a .given .0 .0) (c .before .before .before .before .before .before .before .before .a .given .0 .1 .0) (c .before .before .before .before .before .before .before .before .before .before .before .before .before .pre .1 .whole) (c .before .before .before .before .before .before .before .before .a .given .1) (c .before .before .before .before .before .before .before .before .before .before .before .before .before .pre .2) (c .before .before .before .check-rows .ensures) (c .made .ensures)
 
 returns-2 : tie.Need-returns-2
 returns-2 c = cells-more (c .before .before .before .before .before .before .before .pre .1 .outlined) (c .before .before .a2 .given .0 .0) (c .before .before .a2 .given .1) (c .made2 .ensures)
@@ -71,26 +58,4 @@ returns-4 : tie.Need-returns-4
 returns-4 c = cells-too-long (c .before .before .before .before .before .before .before .pre .1 .outlined) (c .before .before .a4 .given .0 .0) (c .before .before .a4 .given .1) (c .made4 .ensures)
 
 pub tell-spec : {M : Type 1} → statement M
-tell-spec =
-    tie.close
-    (tie.spec
-    enum-known-a
-    sub-kind-named
-    part-kind-named-start
-    part-kind-named-end
-    kind-named-requires
-    slice-aggregate-check-rows
-    slice-aggregate-check-rows-2
-    check-rows-requires
-    made-requires
-    enum-known-a-2
-    made-requires-2
-    enum-known-a-3
-    made-requires-3
-    enum-known-a-4
-    made-requires-4
-    same-length
-    returns
-    returns-2
-    returns-3
-    returns-4)
+tell-spec = tie.close (tie.spec enum-known-a slice-aggregate-check-rows slice-aggregate-check-rows-2 check-rows-requires made-requires enum-known-a-2 made-requires-2 enum-known-a-3 made-requires-3 enum-known-a-4 made-requires-4 same-length returns returns-2 returns-3 returns-4)
