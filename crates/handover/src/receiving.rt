@@ -3,6 +3,7 @@ ghost use mathlib.Core.Path.{_≡_};
 ghost use mathlib.Core.Bool.{true};
 ghost use lib.ListN.{replicate};
 ghost use Rattle.message.specs.Cells.{NUMBERS as MANY};
+ghost use Rattle.reads.specs.Whole.{ChecksInto};
 ghost use Rattle.events.specs.Says.{Sound};
 ghost use Rattle.promises.specs.Receiving.{asksBy, movedFor, noReceipt, refusedBy, toldBy, Answers, Finishes, Receives, ReceivesInto};
 use cells::clear;
@@ -18,6 +19,9 @@ use message::cells::NUMBERS;
 use promises::Receipt;
 use promises::Received;
 use reads::Found;
+use reads::check_outlined;
+use reads::features::sort_of;
+use tags::attributes::PLACES;
 use value::Words;
 use writes::Written;
 
@@ -140,13 +144,25 @@ fn finish(lane: Lane, f: Found, moved: Moved, w: Written, cells: &mut [u64]) -> 
     told(f, moved, w.count)
 }
 
+// The message behind the glue in front of s, checked as check_into does. The parts are called here and there, so that they stay apart in the library for
+// C, and their stacks are not needed at once.
+fn found(s: &[u8], cells: &mut [u64]) -> Found
+    requires { ⌜ now cells ≡ replicate MANY 0 ⌝ }
+    ensures { λ r. ⌜ ChecksInto (now (s .entry)) (now (cells .exit)) r ⌝ }
+{
+    let mut table = [0u16; PLACES];
+    let o = reader::outline(s, &mut table);
+    let k = sort_of(s, o.from, o.to, o.inside);
+    check_outlined(s, o, k, &table, cells)
+}
+
 /// Receives the message that stands first in s, behind glue: checks it, moves the lane, and writes the Notification of a refusal or the
 /// reply to a CheckAlive first into the buffer. What an accepted message says stands in the cells then; else they stay zeros.
 pub fn receive_into(lane: Lane, s: &[u8], out: &mut [u8], cells: &mut [u64]) -> Receipt
     requires { ⌜ now cells ≡ replicate MANY 0 ⌝ }
     ensures { λ r. ⌜ ReceivesInto lane (now (s .entry)) (now (out .entry)) (now (out .exit)) (now (cells .exit)) r ⌝ }
 {
-    let f = reads::check_into(s, &mut *cells);
+    let f = found(s, &mut *cells);
     let id = f.id;
     let event = received_event(s, f.kind, &*cells, id);
     let moved = moved_by(lane, f.refusal, event);

@@ -1,7 +1,6 @@
 // What a message says.
 ghost use Rattle.c_promises.specs.Checking.{Finds};
 use message::cells::NUMBERS;
-use tags::attributes::PLACES;
 
 /// What the message behind the glue says: the refusal; the message's kind, its cells and its BoardId; where it starts and ends; and the place that is
 /// malformed. What there is none of is 0.
@@ -18,10 +17,7 @@ pub extern "C" fn tryphomel_check(
     ensures { λ r. ⌜ Finds (now (bytes .entry)) r (now (start .exit)) (now (end .exit)) (now (place .exit)) (now (kind .exit)) (now (cells .exit)) (now (id .exit)) ⌝ }
 {
     *cells = [0u64; NUMBERS];
-    let mut table = [0u16; PLACES];
-    let o = reader::outline(bytes, &mut table);
-    let k = reads::features::sort_of(bytes, o.from, o.to, o.inside);
-    let f = reads::check_outlined(bytes, o, k, &table, &mut *cells);
+    let f = reads::check_into(bytes, &mut *cells);
     let b = f.id;
     *kind = f.kind as u64;
     *id = b;

@@ -6,20 +6,24 @@ use value::TextAt;
 use value::Words;
 use value::decode::decode;
 use value::is_as_read;
+use value::is_plain;
 use value::is_quotable;
 use value::text_len;
 
-// The text of the bytes w, which stand at p.
+// The text of the bytes w, which stand at p. Plain ones, which most are, stand as they read.
 fn text_of(w: &[u8], p: Span, scratch: &mut [u8]) -> TextAt
     ensures { λ r. ⌜ Answer (now (w .entry)) p (now (scratch .entry)) (now (scratch .exit)) (paper r) ⌝ }
 {
+    if !is_quotable(w) {
+        return TextAt::No(6);
+    }
+    if is_plain(w) {
+        return TextAt::InMessage(p);
+    }
     let l = text_len(w);
     let Length::Is(n) = l else {
         return TextAt::No(6);
     };
-    if !is_quotable(w) {
-        return TextAt::No(6);
-    }
     if is_as_read(w) {
         return TextAt::InMessage(p);
     }

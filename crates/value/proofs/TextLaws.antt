@@ -17,6 +17,8 @@ use Rattle.value.specs.Quotes.{lacks}
 use Rattle.value.specs.Loose.{Loose, text-loose, loose-text}
 use Rattle.value.specs.Decoded.{LengthSays, Decoded}
 use Rattle.value.specs.Asking.{inScratch, Told, handed, paper, Answer, no-value, stands, no-room, decoded, TextSays, absent, outside, there}
+use Rattle.value.specs.AsRead.{raw-as-read-iff}
+use Rattle.value.specs.Plain.{plain, plain-reads}
 use Rattle.value.specs.declared.decode.Length.{Length}
 use Rattle.value.specs.declared.decode.Length.the-variants.{Not}
 use Rattle.value.specs.declared.text.Span.{Span}
@@ -47,6 +49,9 @@ module _ (w : Bytes) (p : Span) (old : Bytes) where
   module _ {q r : Bool} (h : q ≡ quotable w) (k : not q ≡ false) (a : r ≡ asRead w) where
     quoted : {l : List Item} → Loose w l → Text w (readValue l)
     quoted x = loose-text x (or-cases (lacks 34 w) (lacks 39 w) (sym h ∙ undenied q k))
+
+    pub answer-plain : {t : Bool} → t ≡ plain w → t ≡ true → Answer w p old old (paper (InMessage p))
+    answer-plain e b = let (l, x, s) = plain-reads w (sym e ∙ b) in stands (readValue l) (quoted x) (raw-as-read-iff (quoted x) .1 s) refl refl
 
     pub answer-stands : r ≡ true → {n : ℕ} → (l : List Item) × Loose w l × (n ≡ length (readValue l)) → Answer w p old old (paper (InMessage p))
     answer-stands b (l, x, e) = stands (readValue l) (quoted x) (sym a ∙ b) refl refl

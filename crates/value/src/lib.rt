@@ -16,6 +16,7 @@ pub use id::version_at;
 pub use numbers::int_at;
 pub use numbers::number_at;
 pub use tests::is_as_read;
+pub use tests::is_plain;
 pub use tests::is_quotable;
 pub use text::Span;
 pub use text::TextAt;
