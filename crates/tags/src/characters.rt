@@ -2,8 +2,8 @@
 // The lead says how many bytes follow, and between which bounds the second and the third lie.
 ghost use mathlib.Core.Path.{_≡_};
 ghost use mathlib.Core.Bool.{cond};
-ghost use Prim.Native.Nat.{ℕ, _≤_};
-ghost use lib.ListN.{drop};
+ghost use Prim.Native.Nat.{ℕ, _≤_, _<_};
+ghost use lib.ListN.{length, drop};
 ghost use lib.Dec.{eqb};
 ghost use Rattle.exact.specs.Chain.{retP};
 ghost use Rattle.exact.specs.Byte.{onP};
@@ -171,5 +171,18 @@ pub fn character(s: &[u8], at: usize, quote: u8) -> Piece
         _ => {
             return Piece::Bad(at);
         }
+    }
+}
+
+/// The same where a character beyond ASCII stands most often: it has few bytes, and nobody wants to know which it is.
+pub fn beyond(s: &[u8], at: usize, quote: u8) -> Piece
+    requires { ⌜ at < length (now s) ⌝ }
+    ensures { λ r. ⌜ Says (λ (c : ℕ). c) 1 (now (s .entry)) at r (charP (banned quote) (drop at (now (s .entry)))) ⌝ }
+{
+    let b = s[at];
+    match b {
+        0xC2..=0xDF => two(s, at + 1, b),
+        0xE0..=0xEF => three(s, at + 1, b),
+        _ => character(s, at, quote),
     }
 }

@@ -2,7 +2,7 @@
 // Plain bytes are passed over in one loop; only a reference or a character beyond ASCII is taken apart.
 ghost use mathlib.Core.Path.{_≡_};
 ghost use mathlib.Core.Bool.{true};
-ghost use Prim.Native.Nat.{_+_, _≤_};
+ghost use Prim.Native.Nat.{_+_, _≤_, _<_};
 ghost use lib.ListN.{length, drop};
 ghost use Rattle.grammar.specs.Value.{isQuote, banned};
 ghost use Rattle.model.specs.Characters.{plainByte};
@@ -91,6 +91,28 @@ fn plain_run(s: &[u8], at: usize, q: u8) -> usize
     i
 }
 
+// The same, where no plain byte may stand: a character beyond ASCII is none.
+fn passed(s: &[u8], at: usize, q: u8) -> usize
+    requires { ⌜ IsQuote q × (at < length (now s)) ⌝ }
+    ensures { λ r. ⌜ Ran q (now (s .entry)) at r ⌝ }
+{
+    if 127 < s[at] {
+        return at;
+    }
+    plain_run(s, at, q)
+}
+
+// The same as item, with characters of two and three bytes at once.
+fn piece(s: &[u8], at: usize, q: u8) -> Piece
+    requires { ⌜ at < length (now s) ⌝ }
+    ensures { λ r. ⌜ Says codePoint 1 (now (s .entry)) at r (itemP q (drop at (now (s .entry)))) ⌝ }
+{
+    if s[at] == b'&' {
+        return crate::references::reference(s, at + 1);
+    }
+    crate::characters::beyond(s, at, q)
+}
+
 /// A value behind its opening quote q, the closing one included.
 pub fn value(s: &[u8], at: usize, q: u8) -> Step
     requires { ⌜ IsQuote q × (at ≤ length (now s)) ⌝ }
@@ -98,14 +120,14 @@ pub fn value(s: &[u8], at: usize, q: u8) -> Step
 {
     let mut i = at;
     while i < s.len() {
-        let j = plain_run(s, i, q);
+        let j = passed(s, i, q);
         if s.len() <= j {
             return Step::Open;
         }
         if s[j] == q {
             return Step::Done(j + 1);
         }
-        let p = item(s, j, q);
+        let p = piece(s, j, q);
         let Piece::Got(c, e) = p else {
             return crate::step(p);
         };

@@ -17,11 +17,11 @@ abbrev μ-loop : tie.MeasureT-loop
 loop-holds : tie.Need-loop-holds Inv-loop μ-loop
 loop-holds c = value-start _ (c .before .pre .0) _ _
 
-plain-run-requires : tie.Need-plain-run-requires Inv-loop μ-loop
-plain-run-requires c κs = (c .before .before .before .pre .0, omega arith)
+passed-requires : tie.Need-passed-requires Inv-loop μ-loop
+passed-requires c κs = (c .before .before .before .pre .0, c .loop-test .taken)
 
 returns : tie.Need-returns Inv-loop μ-loop
-returns c = value-end _ (c .before .before .before .before .before .pre .0) _ _ _ (value-ran _ (c .before .before .before .before .before .pre .0) _ _ _ (c .before .before .before .loop .inv) _ (c .before .plain-run .ensures)) (c .if1 .taken)
+returns c = value-end _ (c .before .before .before .before .before .pre .0) _ _ _ (value-ran _ (c .before .before .before .before .before .pre .0) _ _ _ (c .before .before .before .loop .inv) _ (c .before .passed .ensures)) (c .if1 .taken)
 
 shared-slice-read-if2 : tie.Need-shared-slice-read-if2 Inv-loop μ-loop
 shared-slice-read-if2 c = omega arith
@@ -30,10 +30,10 @@ add-t13 : tie.Need-add-t13 Inv-loop μ-loop
 add-t13 c = omega arith
 
 returns-2 : tie.Need-returns-2 Inv-loop μ-loop
-returns-2 c = value-stop _ (c .before .before .before .before .before .before .before .pre .0) _ _ _ (value-ran _ (c .before .before .before .before .before .before .before .pre .0) _ _ _ (c .before .before .before .before .before .loop .inv) _ (c .before .before .before .plain-run .ensures)) (c .before .before .if1 .left) (c .if2 .taken)
+returns-2 c = value-stop _ (c .before .before .before .before .before .before .before .pre .0) _ _ _ (value-ran _ (c .before .before .before .before .before .before .before .pre .0) _ _ _ (c .before .before .before .before .before .loop .inv) _ (c .before .before .before .passed .ensures)) (c .before .before .if1 .left) (c .if2 .taken)
 
-item-requires : tie.Need-item-requires Inv-loop μ-loop
-item-requires c κs = tt
+piece-requires : tie.Need-piece-requires Inv-loop μ-loop
+piece-requires c κs = omega arith
 
 enum-known-p : tie.Need-enum-known-p Inv-loop μ-loop
 enum-known-p c = c .match .keys1
@@ -42,13 +42,13 @@ step-requires : tie.Need-step-requires Inv-loop μ-loop
 step-requires c κs = tt
 
 returns-3 : tie.Need-returns-3 Inv-loop μ-loop
-returns-3 c = value-fail _ (c .before .before .before .before .before .before .before .before .before .before .pre .0) _ _ _ (value-ran _ (c .before .before .before .before .before .before .before .before .before .before .pre .0) _ _ _ (c .before .before .before .before .before .before .before .before .loop .inv) _ (c .before .before .before .before .before .before .plain-run .ensures)) (c .before .before .before .before .before .if1 .left) (c .before .before .before .if2 .left) (c .before .match .keys2) (c .step .ensures) (c .before .before .item .ensures)
+returns-3 c = value-fail _ (c .before .before .before .before .before .before .before .before .before .before .pre .0) _ _ _ (value-ran _ (c .before .before .before .before .before .before .before .before .before .before .pre .0) _ _ _ (c .before .before .before .before .before .before .before .before .loop .inv) _ (c .before .before .before .before .before .before .passed .ensures)) (c .before .before .before .before .before .if1 .left) (c .before .before .before .if2 .left) (c .before .match .keys2) (c .step .ensures) (c .before .before .piece .ensures)
 
 loop-less : tie.Need-loop-less Inv-loop μ-loop
-loop-less c = let g = known (c .before .p .given .1) (c .before .before .before .item .ensures) in let z = c .before .before .before .before .before .before .before .plain-run .ensures .from in let y = g .far in omega arith
+loop-less c = let g = known (c .before .p .given .1) (c .before .before .before .piece .ensures) in let z = c .before .before .before .before .before .before .before .passed .ensures .from in let y = g .far in omega arith
 
 loop-again : tie.Need-loop-again Inv-loop μ-loop
-loop-again c = value-next _ (c .before .before .before .before .before .before .before .before .before .before .before .pre .0) _ _ _ (value-ran _ (c .before .before .before .before .before .before .before .before .before .before .before .pre .0) _ _ _ (c .before .before .before .before .before .before .before .before .before .loop .inv) _ (c .before .before .before .before .before .before .before .plain-run .ensures)) (c .before .before .before .before .before .before .if1 .left) (c .before .before .before .before .if2 .left) (known (c .before .p .given .1) (c .before .before .before .item .ensures))
+loop-again c = value-next _ (c .before .before .before .before .before .before .before .before .before .before .before .pre .0) _ _ _ (value-ran _ (c .before .before .before .before .before .before .before .before .before .before .before .pre .0) _ _ _ (c .before .before .before .before .before .before .before .before .before .loop .inv) _ (c .before .before .before .before .before .before .before .passed .ensures)) (c .before .before .before .before .before .before .if1 .left) (c .before .before .before .before .if2 .left) (known (c .before .p .given .1) (c .before .before .before .piece .ensures))
 
 returns-4 : tie.Need-returns-4 Inv-loop μ-loop
 returns-4 c = value-end _ (c .before .before .before .pre .0) _ _ _ (c .before .loop .inv) (c .loop-test .left)
@@ -60,12 +60,12 @@ value-spec =
     Inv-loop
     μ-loop
     loop-holds
-    plain-run-requires
+    passed-requires
     returns
     shared-slice-read-if2
     add-t13
     returns-2
-    item-requires
+    piece-requires
     enum-known-p
     step-requires
     returns-3
