@@ -58,6 +58,13 @@ std::string long_value(unsigned n) {
     return s + words(n - s.size() - 12) + "\"/></Hermes>";
 }
 
+// A Description in Chinese, or in German.
+std::string described(const std::string &words, unsigned n) {
+    std::string s = "<Hermes><Notification NotificationCode=\"1\" Severity=\"1\" Description=\"";
+    for (unsigned i = 0; i < n; i++) s += words;
+    return s + "\"/></Hermes>";
+}
+
 std::string siblings(unsigned n) {
     std::string s = "<Hermes><Foreign>";
     for (unsigned i = 0; i < n; i++) s += "<A/>";
@@ -356,6 +363,8 @@ void reading_works(std::vector<Work> &works) {
     read_work(works, "read 32 names that are alike at their ends", many(100, alike_names), peers);
     read_work(works, "read 10,000 siblings", many(4, [] { return siblings(10000); }), peers);
     read_work(works, "read 8,000 comments", many(4, [] { return comments(8000); }), peers);
+    read_work(works, "read a value of Chinese, 20,000 characters", many(4, [] { return described("电路板", 6667); }), peers);
+    read_work(works, "read a value of German, 20,000 characters", many(4, [] { return described("Prüfung der größeren Brücke ", 714); }), peers);
     read_work(works, "one value, a byte at 60000", many(4, [] { return long_value(60000); }), peers);
     read_work(works, "one value, a byte at 600", many(400, [] { return long_value(600); }), {});
     read_work(works, "one text, a byte at 60000", many(4, [] { return text_of(60000); }), peers);

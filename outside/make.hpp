@@ -1,6 +1,9 @@
 // Makes messages with all the freedom of the grammar: declaration, glue, text, comments, quotes, tags, depth, counts, names, references, characters.
 // `Wide` opens one limit after the other, for documents that are XML and no message.
 #pragma once
+#include <cstdio>
+#include <cstdlib>
+#include <fstream>
 #include <string>
 #include <vector>
 
@@ -27,42 +30,62 @@ struct Wide {
 };
 
 struct Column {
-    const char *name;
+    std::string name;
     char type;  // t text, n text that is not empty, i int, p positive number, g GUID, v version
     bool may_miss;
     unsigned low, high;
 };
 
 struct Row {
-    const char *name;
+    std::string name;
     std::vector<Column> columns;
 };
 
+// What stands between the bars of a line, without the blanks around it.
+inline std::vector<std::string> between_bars(const std::string &line) {
+    std::vector<std::string> found;
+    for (size_t at = 1, end; (end = line.find('|', at)) != std::string::npos; at = end + 1) {
+        std::string cell = line.substr(at, end - at);
+        size_t first = cell.find_first_not_of(' ');
+        found.push_back(first == std::string::npos ? "" : cell.substr(first, cell.find_last_not_of(' ') - first + 1));
+    }
+    return found;
+}
+
+inline Column column(const std::string &name, const std::string &value, bool may_miss) {
+    unsigned low = 0, high = 0;
+    if (sscanf(value.c_str(), "%u..%u", &low, &high) == 2) return {name, 'i', may_miss, low, high};
+    if (sscanf(value.c_str(), "text %u", &high) == 1) return {name, 't', may_miss, 0, high};
+    if (sscanf(value.c_str(), "non-empty text %u", &high) == 1) return {name, 'n', may_miss, 1, high};
+    if (value == "GUID") return {name, 'g', may_miss, 0, 0};
+    if (value == "Version") return {name, 'v', may_miss, 0, 0};
+    if (value == "positive") return {name, 'p', may_miss, 0, 0};
+    fprintf(stderr, "docs/RULES.md: the value of %s is not known here: %s\n", name.c_str(), value.c_str());
+    exit(2);
+}
+
+// The attribute table that docs/RULES.md prints; programs run in the project's folder. The child has no column.
+inline std::vector<Row> printed() {
+    std::ifstream rules("docs/RULES.md");
+    std::vector<Row> rows;
+    bool inside = false;
+    for (std::string line; std::getline(rules, line);) {
+        std::vector<std::string> cells = between_bars(line);
+        if (cells.size() == 6 && cells[0] == "Kind" && cells[2] == "Attribute") inside = true;
+        if (line.empty()) inside = false;
+        if (!inside || atoi(cells[0].c_str()) == 0) continue;
+        if (rows.empty() || rows.back().name != cells[1]) rows.push_back({cells[1], {}});
+        if (cells[2] != "none" && cells[3] != "child") rows.back().columns.push_back(column(cells[2], cells[3], cells[4] == "yes"));
+    }
+    if (rows.empty()) {
+        fprintf(stderr, "there is no attribute table in docs/RULES.md: this is to be run in the project's folder\n");
+        exit(2);
+    }
+    return rows;
+}
+
 inline const std::vector<Row> &table() {
-    static const std::vector<Row> rows = {
-        {"ServiceDescription", {{"MachineId", 't', false, 0, 80}, {"LaneId", 'i', false, 1, 65535}, {"Version", 'v', false, 0, 0}}},
-        {"Notification", {{"NotificationCode", 'i', false, 1, 65535}, {"Severity", 'i', false, 1, 4}, {"Description", 't', false, 0, 254}}},
-        {"BoardAvailable",
-         {{"BoardId", 'g', false, 0, 0}, {"BoardIdCreatedBy", 'n', false, 1, 80}, {"FailedBoard", 'i', false, 0, 2},
-          {"ProductTypeId", 't', true, 0, 254}, {"FlippedBoard", 'i', false, 0, 2}, {"TopBarcode", 't', true, 0, 254},
-          {"BottomBarcode", 't', true, 0, 254}, {"Length", 'p', true, 0, 0}, {"Width", 'p', true, 0, 0}, {"Thickness", 'p', true, 0, 0},
-          {"ConveyorSpeed", 'p', true, 0, 0}, {"TopClearanceHeight", 'p', true, 0, 0}, {"BottomClearanceHeight", 'p', true, 0, 0},
-          {"Weight", 'p', true, 0, 0}, {"WorkOrderId", 't', true, 0, 80}, {"Route", 'i', true, 0, 65535}, {"BatchId", 't', true, 0, 80}}},
-        {"RevokeBoardAvailable", {}},
-        {"MachineReady", {{"FailedBoard", 'i', false, 0, 2}, {"ForecastId", 't', true, 0, 80}}},
-        {"RevokeMachineReady", {}},
-        {"StartTransport", {{"BoardId", 'g', false, 0, 0}, {"ConveyorSpeed", 'p', true, 0, 0}}},
-        {"StopTransport", {{"TransferState", 'i', false, 1, 3}, {"BoardId", 'g', false, 0, 0}}},
-        {"TransportFinished", {{"TransferState", 'i', false, 1, 3}, {"BoardId", 'g', false, 0, 0}}},
-        {"CheckAlive", {{"Type", 'i', true, 1, 2}, {"Id", 't', true, 0, 80}}},
-        {"BoardForecast",
-         {{"ForecastId", 't', true, 0, 80}, {"TimeUntilAvailable", 'p', true, 0, 0}, {"BoardId", 'g', true, 0, 0},
-          {"BoardIdCreatedBy", 't', true, 0, 80}, {"FailedBoard", 'i', false, 0, 2}, {"ProductTypeId", 't', true, 0, 254},
-          {"FlippedBoard", 'i', false, 0, 2}, {"TopBarcode", 't', true, 0, 254}, {"BottomBarcode", 't', true, 0, 254},
-          {"Length", 'p', true, 0, 0}, {"Width", 'p', true, 0, 0}, {"Thickness", 'p', true, 0, 0}, {"ConveyorSpeed", 'p', true, 0, 0},
-          {"TopClearanceHeight", 'p', true, 0, 0}, {"BottomClearanceHeight", 'p', true, 0, 0}, {"Weight", 'p', true, 0, 0},
-          {"WorkOrderId", 't', true, 0, 80}}},
-    };
+    static const std::vector<Row> rows = printed();
     return rows;
 }
 
@@ -361,7 +384,7 @@ class Maker {
         const Row &row = table()[r.below(table().size())];
         std::vector<Column> columns = row.columns;
         for (size_t i = columns.size(); i > 1; i--) std::swap(columns[i - 1], columns[r.below(i)]);
-        put("<" + std::string(row.name));
+        put("<" + row.name);
         for (const Column &c : columns) {
             if (c.may_miss ? r.one_in(2) : r.one_in(40)) continue;
             std::string raw;
