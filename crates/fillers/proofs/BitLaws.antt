@@ -27,7 +27,7 @@ use Rattle.model.specs.Glue.{glue-low}
 use Rattle.model.specs.Comments.{commentP}
 use Rattle.model.specs.Fillers.{textP, stopper-stops, FillAcc, added, ended, textTurn, markupP, bitP, bits-eq}
 use Rattle.scan.specs.Pieces.{Skipped}
-use Rattle.tags.proofs.CharacterLaws.{plain-other, text-low}
+use Rattle.pieces.proofs.CharacterLaws.{plain-other, text-low}
 use Rattle.fillers.specs.Fills.{PlainRun, bitsP, calmly}
 use Rattle.fillers.proofs.CommentLaws.{plain-apart, plain-no-lt, plain-no-amp, plain-no-stop, plain-low}
 

@@ -26,11 +26,11 @@ use Rattle.scan.specs.Unfold.{then-and}
 use Rattle.scan.proofs.Chain.{then-done, then-more, then-bad, Fails as StepFails, pass as step-pass, last as step-last, moved as step-moved}
 use Rattle.scan.specs.declared.Step.{Step}
 use Rattle.scan.specs.declared.Step.the-variants.{Done, Open as Unended, Bad as Dead}
-use Rattle.tags.specs.Says.{Known, Says, stepOf}
-use Rattle.tags.proofs.Answers.{Fails, pass, moved, stepped}
-use Rattle.tags.proofs.CharacterLaws.{plain-quote}
-use Rattle.tags.specs.declared.Piece.{Piece}
-use Rattle.tags.specs.declared.Piece.the-variants.{Got, Open, Bad}
+use Rattle.pieces.specs.Says.{Known, Says, stepOf}
+use Rattle.pieces.proofs.Answers.{Fails, pass, moved, stepped}
+use Rattle.pieces.proofs.CharacterLaws.{plain-quote}
+use Rattle.pieces.specs.declared.Piece.{Piece}
+use Rattle.pieces.specs.declared.Piece.the-variants.{Got, Open, Bad}
 use Rattle.fillers.specs.Fills.{PlainRun, PastDash}
 
 -- a plain byte is a character that is no `-`; so are `<` and `&`

@@ -9,7 +9,7 @@ use borrow.Author.Tests.{leb-true, leb-false}
 use Rattle.grammar.specs.Bytes.{Bytes}
 use Rattle.grammar.specs.Value.{banned}
 use Rattle.model.specs.Characters.{plainByte}
-use Rattle.tags.specs.Parts.{Plain}
+use Rattle.pieces.specs.Parts.{Plain}
 use Rattle.fillers.specs.Fills.{PlainRun}
 
 module _ (q : ℕ) (s : Bytes) (at : ℕ) where

@@ -18,11 +18,11 @@ use Rattle.model.specs.Fillers.{textP, FillAcc, added}
 use Rattle.scan.proofs.Chain.{never}
 use Rattle.scan.specs.declared.Step.{Step}
 use Rattle.scan.specs.declared.Step.the-variants.{Done, Open as Unended, Bad as Dead}
-use Rattle.tags.specs.Says.{Known, Says, stepOf}
-use Rattle.tags.specs.Parts.{codePoint}
-use Rattle.tags.proofs.Answers.{Fails}
-use Rattle.tags.specs.declared.Piece.{Piece}
-use Rattle.tags.specs.declared.Piece.the-variants.{Got, Open, Bad}
+use Rattle.pieces.specs.Says.{Known, Says, stepOf}
+use Rattle.pieces.specs.Parts.{codePoint}
+use Rattle.pieces.proofs.Answers.{Fails}
+use Rattle.pieces.specs.declared.Piece.{Piece}
+use Rattle.pieces.specs.declared.Piece.the-variants.{Got, Open, Bad}
 use Rattle.fillers.specs.Fills.{Cleared, bitsP, calmly, GapCase, GotGap}
 use Rattle.fillers.proofs.BitLaws.{bits-end, bits-text, plain-run, item-row}
 

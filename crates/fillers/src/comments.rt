@@ -3,11 +3,11 @@ ghost use Prim.Native.Nat.{ℕ, _≤_, _<_};
 ghost use lib.ListN.{length, drop};
 ghost use Rattle.model.specs.Comments.{noDashP, marksP, commentP};
 ghost use Rattle.scan.specs.Pieces.{Got};
-ghost use Rattle.tags.specs.Says.{Says};
+ghost use Rattle.pieces.specs.Says.{Says};
 ghost use Rattle.fillers.specs.Fills.{PastDash};
 use crate::runs::run;
+use pieces::Piece;
 use scan::Step;
-use tags::Piece;
 
 // A character that is no `-`.
 fn character(s: &[u8], at: usize) -> Piece
@@ -22,7 +22,7 @@ fn character(s: &[u8], at: usize) -> Piece
     if s[at] == b'&' {
         return Piece::Got(38, at + 1);
     }
-    tags::characters::character(s, at, b'-')
+    pieces::characters::character(s, at, b'-')
 }
 
 // The place behind a `-` that stands at i, else i.
@@ -56,7 +56,7 @@ fn marks(s: &[u8], at: usize) -> Step
         }
         let p = character(s, k);
         let Piece::Got(c, e) = p else {
-            return tags::step(p);
+            return pieces::step(p);
         };
         i = e;
     }

@@ -2,8 +2,8 @@
 ghost use Prim.Native.Nat.{_≤_};
 ghost use lib.ListN.{length};
 ghost use Rattle.fillers.specs.Fills.{PlainRun};
-use tags::characters::is_plain;
-use tags::values::eight_clear;
+use pieces::characters::is_plain;
+use pieces::values::eight_clear;
 
 // Where fewer than eight plain bytes stand in a row: one branch for eight bytes.
 fn eights(s: &[u8], at: usize, q: u8) -> usize

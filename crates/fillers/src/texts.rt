@@ -7,8 +7,8 @@ ghost use lib.Dec.{eqb};
 ghost use Rattle.grammar.specs.Filler.{stopper, belowRoot};
 ghost use Rattle.fillers.specs.Fills.{Cleared, GotGap};
 use crate::runs::run;
+use pieces::Piece;
 use scan::Step;
-use tags::Piece;
 
 // What may not stand raw behind n `]` in a row.
 fn stop(n: usize) -> u8
@@ -57,9 +57,9 @@ pub fn text(s: &[u8], at: usize) -> Step
         if s[j] == b'<' {
             return Step::Done(j);
         }
-        let p = tags::values::item(s, j, stop(n));
+        let p = pieces::values::item(s, j, stop(n));
         let Piece::Got(c, e) = p else {
-            return tags::step(p);
+            return pieces::step(p);
         };
         n = row(s, j, n);
         i = e;

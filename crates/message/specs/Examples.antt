@@ -108,7 +108,7 @@ pub board-fields :
     ∷ aWhole (IsWhole 900)
     ∷ aWords (at "BatchId")
     ∷ [])
-unfolding table fieldsIn fieldFor tried judged guidOf filled may hex intOf signed sized numberOf decimalsOf parted unsigned decimal written short above decimals before behind trim dropFront dropBack keepBefore blank digit all nonEmpty valueFrom within
+unfolding table messageFrom withZeros cellsOf fieldsIn fieldFor tried judged guidOf filled may hex intOf signed sized numberOf decimalsOf parted unsigned decimal written short above decimals before behind trim dropFront dropBack keepBefore blank digit all nonEmpty valueFrom within
 board-fields = refl
 
 pub forecast-fields :
@@ -152,13 +152,13 @@ pub forecast-fields :
     ∷ aMeasure (IsMeasure 7000000 0)
     ∷ aWords (at "WorkOrderId")
     ∷ [])
-unfolding table fieldsIn fieldFor tried judged guidOf filled may hex intOf signed sized numberOf decimalsOf parted unsigned decimal written short above decimals before behind trim dropFront dropBack keepBefore blank digit all nonEmpty valueFrom within
+unfolding table messageFrom withZeros cellsOf fieldsIn fieldFor tried judged guidOf filled may hex intOf signed sized numberOf decimalsOf parted unsigned decimal written short above decimals before behind trim dropFront dropBack keepBefore blank digit all nonEmpty valueFrom within
 forecast-fields = refl
 
 pub service-fields :
     messageOf 1 spot (tree (text "ServiceDescription") ("MachineId" := "m" ∷ "LaneId" := "7" ∷ "Version" := "1.6" ∷ []) (tree-then (featuring (tree-then (bare "FeatureQueryBoardInfo") no-trees)) no-trees))
     ≡ messageFrom 1 (aWords (at "MachineId") ∷ aWhole (IsWhole 7) ∷ aWords (at "Version") ∷ aFeatures (record { there = true; forecast = false; query = true; send = false }) ∷ [])
-unfolding table fieldsIn fieldFor tried judged intOf signed sized trim dropFront dropBack keepBefore blank digit all nonEmpty valueFrom within
+unfolding table messageFrom withZeros cellsOf fieldsIn fieldFor tried judged intOf signed sized trim dropFront dropBack keepBefore blank digit all nonEmpty valueFrom within
 service-fields = refl
 
 pub other-fields :
@@ -168,7 +168,7 @@ pub other-fields :
     × (messageOf 8 spot (tree (text "StopTransport") ("TransferState" := "3" ∷ "BoardId" := "01234567-89ab-cdef-0123-456789abcdef" ∷ []) no-trees) ≡ messageFrom 8 (aWhole (IsWhole 3) ∷ aGuid someId ∷ []))
     × (messageOf 9 spot (tree (text "TransportFinished") ("TransferState" := "1" ∷ "BoardId" := "01234567-89ab-cdef-0123-456789abcdef" ∷ []) no-trees) ≡ messageFrom 9 (aWhole (IsWhole 1) ∷ aGuid someId ∷ []))
     × (messageOf 10 spot (tree (text "CheckAlive") ("Type" := "2" ∷ "Id" := "i" ∷ []) no-trees) ≡ messageFrom 10 (aWhole (IsWhole 2) ∷ aWords (at "Id") ∷ []))
-unfolding table fieldsIn fieldFor tried judged guidOf filled may hex intOf signed sized numberOf decimalsOf parted unsigned decimal written short above decimals before behind trim dropFront dropBack keepBefore blank digit all nonEmpty valueFrom within
+unfolding table messageFrom withZeros cellsOf fieldsIn fieldFor tried judged guidOf filled may hex intOf signed sized numberOf decimalsOf parted unsigned decimal written short above decimals before behind trim dropFront dropBack keepBefore blank digit all nonEmpty valueFrom within
 other-fields = (refl, refl, refl, refl, refl, refl)
 
 -- the numbers of a message: of an id whether it is there, of a text its place, of a number its value, of features their bits; zeros behind them

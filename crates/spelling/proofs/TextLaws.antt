@@ -17,11 +17,11 @@ use Rattle.grammar.specs.Character.{isChar, utf8}
 use Rattle.grammar.specs.Value.{banned}
 use Rattle.model.specs.Characters.{IsRaw, plainByte, charP, char-exact}
 use Rattle.model.specs.Tests.{and-left, and-right, and-both}
-use Rattle.tags.specs.Says.{Known, Says}
-use Rattle.tags.specs.Parts.{Plain}
-use Rattle.tags.proofs.Answers.{Fails, moved}
-use Rattle.tags.specs.declared.Piece.{Piece}
-use Rattle.tags.specs.declared.Piece.the-variants.{Got, Open, Bad}
+use Rattle.pieces.specs.Says.{Known, Says}
+use Rattle.pieces.specs.Parts.{Plain}
+use Rattle.pieces.proofs.Answers.{Fails, moved}
+use Rattle.pieces.specs.declared.Piece.{Piece}
+use Rattle.pieces.specs.declared.Piece.the-variants.{Got, Open, Bad}
 use Rattle.spelling.specs.Characters.{spell, IsText, TextSays, Along, Passes, noBan}
 
 pub character-exact : Exact (IsRaw noBan) (charP noBan)

@@ -2,10 +2,10 @@
 ghost use Prim.Native.Nat.{ℕ, _≤_, _<_};
 ghost use lib.ListN.{length, drop};
 ghost use Rattle.model.specs.Characters.{charP};
-ghost use Rattle.tags.specs.Says.{Says};
+ghost use Rattle.pieces.specs.Says.{Says};
 ghost use Rattle.spelling.specs.Characters.{TextSays, Passes, noBan};
-use tags::Piece;
-use tags::values::eight_clear;
+use pieces::Piece;
+use pieces::values::eight_clear;
 
 // The character at `at`, and the next place.
 fn character(s: &[u8], at: usize) -> Piece
@@ -14,10 +14,10 @@ fn character(s: &[u8], at: usize) -> Piece
 {
     let b = s[at];
     if 127 < b {
-        return tags::characters::character(s, at, b'<');
+        return pieces::characters::character(s, at, b'<');
     }
     let c = b as usize;
-    if tags::references::is_char(c) {
+    if pieces::references::is_char(c) {
         return Piece::Got(c, at + 1);
     }
     Piece::Bad(at)

@@ -24,7 +24,7 @@ use Rattle.grammar.specs.Bytes.{Bytes, text, within, digit, every, fits}
 use Rattle.grammar.specs.Glue.{isGlue}
 use Rattle.grammar.specs.Name.{letter, nameStart, nameByte}
 use Rattle.grammar.specs.Value.{Item, spellValue, isQuote, GoodValue}
-use Rattle.tags.specs.Parts.{IsQuote}
+use Rattle.pieces.specs.Parts.{IsQuote}
 use Rattle.tags.specs.Names.{Lacks, One, Ready, FreshTo, FreshCase, Fresh, FreshSays}
 use Rattle.tags.specs.Inner.{Opening, openP, OpenedTo, Opened, AttributeTo, AttributeSays, lostGiven, failedTag, EndSays}
 use Rattle.tags.proofs.CompareLaws.{part-long, part-at, every-at, lacks-join}

@@ -1,9 +1,3 @@
-pub mod Tests
-pub mod Answers
-pub mod CharacterLaws
-pub mod NumeralLaws
-pub mod ReferenceLaws
-pub mod ValueLaws
 pub mod CompareLaws
 pub mod MarkLaws
 pub mod WalkLaws

@@ -1,6 +1,3 @@
-pub mod Says
-pub mod Numerals
-pub mod Parts
 pub mod Places
 pub mod Heads
 pub mod Only

@@ -11,9 +11,9 @@ ghost use Rattle.grammar.specs.Name.{nameStart, nameByte};
 ghost use Rattle.tags.specs.Names.{Part, Run, Agree, Named, Lacks, Found, Stood, Repeats, markOf, Ready, Meets, NameTo, FreshSays};
 ghost use Rattle.tags.specs.Inner.{Opened, AttributeSays, lostGiven, PutRow, EndSays, failedTag};
 ghost use Rattle.tags.specs.Heads.{HeadSays};
-use crate::values::is_quote;
-use crate::values::value;
 use grammar::Limits;
+use pieces::values::is_quote;
+use pieces::values::value;
 use scan::Step;
 
 /// How many numbers a tag's table of places has: four for each attribute that it may have.

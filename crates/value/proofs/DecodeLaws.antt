@@ -17,9 +17,9 @@ use Rattle.value.specs.Decoded.{LengthCase, LengthSays, Put, PutInRoom, 
 use Rattle.value.specs.declared.decode.Length.{Length}
 use Rattle.value.specs.declared.decode.Length.the-variants.{Is, Not}
 use Rattle.value.proofs.Theorems.{loose-one}
-use Rattle.tags.proofs.Answers.{Fails}
-use Rattle.tags.specs.declared.Piece.{Piece}
-use Rattle.tags.specs.declared.Piece.the-variants.{Got, Open, Bad}
+use Rattle.pieces.proofs.Answers.{Fails}
+use Rattle.pieces.specs.declared.Piece.{Piece}
+use Rattle.pieces.specs.declared.Piece.the-variants.{Got, Open, Bad}
 
 -- a step that is known
 pub taken : {s : Bytes} {at : ℕ} {r : Piece} {c e : ℕ} → r ≡ Got c e → UnitSays s at r → Taken s at c e

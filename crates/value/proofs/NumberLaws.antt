@@ -11,8 +11,8 @@ use Rattle.grammar.specs.Value.{readValue}
 use Rattle.numerals.specs.Scan.{run, step, start}
 use Rattle.numerals.specs.declared.scan.Scan.{Scan}
 use Rattle.numerals.proofs.Theorems.{scanned-on}
-use Rattle.tags.proofs.Answers.{Fails}
-use Rattle.tags.specs.declared.Piece.{Piece}
+use Rattle.pieces.proofs.Answers.{Fails}
+use Rattle.pieces.specs.declared.Piece.{Piece}
 use Rattle.value.specs.Walk.{Taken, Walked, walked-start, walked-step, walked-end, walked-fail}
 use Rattle.value.specs.Plain.{plain, plain-reads}
 use Rattle.value.specs.Units.{UnitSays}

@@ -24,10 +24,10 @@ use Rattle.value.specs.Quotes.{Bytes8, ascii, beyond, bytes8}
 use Rattle.value.specs.Loose.{item-exact, BRACKET, Loose, loose-first}
 use Rattle.value.specs.Walk.{Taken}
 use Rattle.value.specs.Units.{UnitSays}
-use Rattle.tags.specs.Parts.{codePoint}
-use Rattle.tags.specs.Says.{Says}
-use Rattle.tags.specs.declared.Piece.{Piece}
-use Rattle.tags.specs.declared.Piece.the-variants.{Got, Open, Bad}
+use Rattle.pieces.specs.Parts.{codePoint}
+use Rattle.pieces.specs.Says.{Says}
+use Rattle.pieces.specs.declared.Piece.{Piece}
+use Rattle.pieces.specs.declared.Piece.the-variants.{Got, Open, Bad}
 
 item-char : {q : ℕ} {i : Item} → GoodItem q i → codePoint i ≤ 0x10FFFF
 item-char (good-raw {c} h k) = char-max c h

@@ -6,8 +6,8 @@ use Rattle.grammar.specs.Bytes.{Bytes}
 use Rattle.grammar.specs.Value.{Item}
 use Rattle.value.specs.Loose.{Loose}
 use Rattle.value.specs.Walk.{Taken}
-use Rattle.tags.specs.declared.Piece.{Piece}
-use Rattle.tags.specs.declared.Piece.the-variants.{Got, Open, Bad}
+use Rattle.pieces.specs.declared.Piece.{Piece}
+use Rattle.pieces.specs.declared.Piece.the-variants.{Got, Open, Bad}
 
 abbrev pub UnitCase : Bytes → ℕ → Piece → Type 0
 UnitCase s at (Got c e) = Taken s at c e

@@ -7,7 +7,7 @@ ghost use Rattle.value.specs.Decoded.{LengthSays, PutInRoom, Decoded};
 use crate::units::unit;
 use crate::utf8::utf8_byte;
 use crate::utf8::utf8_len;
-use tags::Piece;
+use pieces::Piece;
 
 /// How long a value reads, or that the bytes are no items.
 pub enum Length {

@@ -11,7 +11,7 @@ use crate::utf8::utf8_len;
 use number::NumberRead;
 use number::WholeRead;
 use numerals::Scan;
-use tags::Piece;
+use pieces::Piece;
 
 /// The scan of what a value reads as, or that the bytes are no items.
 pub enum Walk {

@@ -3,7 +3,7 @@ ghost use mathlib.Core.Path.{_≡_};
 ghost use Prim.Native.Nat.{_<_};
 ghost use lib.ListN.{length, getD};
 ghost use Rattle.value.specs.Units.{UnitSays};
-use tags::Piece;
+use pieces::Piece;
 
 // The CR at `at`, with the LF behind it.
 fn line_end(s: &[u8], at: usize) -> Piece
@@ -35,5 +35,5 @@ pub fn unit(s: &[u8], at: usize) -> Piece
     if b == b'\n' {
         return Piece::Got(32, at + 1);
     }
-    tags::values::item(s, at, b'<')
+    pieces::values::item(s, at, b'<')
 }

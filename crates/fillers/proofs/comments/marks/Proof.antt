@@ -2,7 +2,7 @@
 use Prim.Native.Nat.{_-_}
 use native.Mathlib.Omega.{arith}
 use lib.ListN.{length}
-use Rattle.tags.proofs.Answers.{known}
+use Rattle.pieces.proofs.Answers.{known}
 use Rattle.fillers.proofs.CommentLaws.{InMarks, marks-start, marks-end, marks-ran, marks-cut, marks-shut, marks-fail, marks-next, past-from}
 use Rattle.fillers.proofs.comments.marks.Statement.{statement}
 use Rattle.fillers.proofs.comments.marks.Tie as tie

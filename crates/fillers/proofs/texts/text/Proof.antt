@@ -2,7 +2,7 @@
 use Prim.Native.Nat.{_-_}
 use native.Mathlib.Omega.{arith}
 use lib.ListN.{length}
-use Rattle.tags.proofs.Answers.{known}
+use Rattle.pieces.proofs.Answers.{known}
 use Rattle.fillers.proofs.TextLaws.{InText, text-start, text-end, text-cleared, text-stop, text-fail, text-next}
 use Rattle.fillers.proofs.texts.text.Statement.{statement}
 use Rattle.fillers.proofs.texts.text.Tie as tie

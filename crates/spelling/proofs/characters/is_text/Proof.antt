@@ -2,7 +2,7 @@
 use Prim.Native.Nat.{_-_}
 use native.Mathlib.Omega.{arith}
 use lib.ListN.{length}
-use Rattle.tags.proofs.Answers.{known}
+use Rattle.pieces.proofs.Answers.{known}
 use Rattle.spelling.specs.Characters.{Along}
 use Rattle.spelling.proofs.TextLaws.{along-start, along-next, along-end, along-fail}
 use Rattle.spelling.proofs.characters.is_text.Statement.{statement}

@@ -4,7 +4,7 @@ use mathlib.Core.List.{[], _∷_}
 use Prim.Native.Nat.{ℕ}
 use lib.ListN.{getD}
 use Rattle.spelling.specs.Written.{escapeByte}
-use Rattle.tags.proofs.ValueLaws.{eight-sum}
+use Rattle.pieces.proofs.ValueLaws.{eight-sum}
 use borrow.Author.Needs.{needs}
 use Rattle.spelling.proofs.escapes.eight_stay.Statement.{statement}
 use Rattle.spelling.proofs.escapes.eight_stay.Tie as tie

@@ -1,5 +1,5 @@
 -- A test as a number.
-use Rattle.tags.proofs.ValueLaws.{test-number}
+use Rattle.pieces.proofs.ValueLaws.{test-number}
 use Rattle.tags.proofs.CompareLaws.{apart-test}
 use borrow.Author.Needs.{needs}
 use Rattle.tags.proofs.attributes.apart.Statement.{statement}

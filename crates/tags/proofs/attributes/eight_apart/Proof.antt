@@ -2,7 +2,7 @@
 use mathlib.Core.Path.{_≡_}
 use Prim.Native.Nat.{ℕ}
 use lib.ListN.{getD}
-use Rattle.tags.proofs.ValueLaws.{eight-sum}
+use Rattle.pieces.proofs.ValueLaws.{eight-sum}
 use borrow.Author.Needs.{needs}
 use Rattle.tags.proofs.attributes.eight_apart.Statement.{statement}
 use Rattle.tags.proofs.attributes.eight_apart.Tie as tie

@@ -4,7 +4,7 @@ use Prim.Native.Nat.{ℕ, _+_}
 use native.Mathlib.Omega.{arith}
 use native.Mathlib.Nat.{add-zero}
 use lib.ListN.{getD}
-use Rattle.tags.proofs.ValueLaws.{eight-sum}
+use Rattle.pieces.proofs.ValueLaws.{eight-sum}
 use borrow.Author.Needs.{needs}
 use Rattle.tags.proofs.attributes.eight_equal.Statement.{statement}
 use Rattle.tags.proofs.attributes.eight_equal.Tie as tie

@@ -4,7 +4,7 @@ use mathlib.Core.Bool.{true}
 use Prim.Native.Nat.{ℕ}
 use lib.ListN.{getD}
 use Rattle.grammar.specs.Name.{nameByte}
-use Rattle.tags.proofs.ValueLaws.{eight-sum}
+use Rattle.pieces.proofs.ValueLaws.{eight-sum}
 use borrow.Author.Needs.{needs}
 use Rattle.tags.proofs.attributes.eight_letters.Statement.{statement}
 use Rattle.tags.proofs.attributes.eight_letters.Tie as tie

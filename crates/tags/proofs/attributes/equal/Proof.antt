@@ -1,6 +1,6 @@
 -- A test as a number.
 use borrow.Author.Tests.{eqb-true}
-use Rattle.tags.proofs.ValueLaws.{test-number}
+use Rattle.pieces.proofs.ValueLaws.{test-number}
 use borrow.Author.Needs.{needs}
 use Rattle.tags.proofs.attributes.equal.Statement.{statement}
 use Rattle.tags.proofs.attributes.equal.Tie as tie

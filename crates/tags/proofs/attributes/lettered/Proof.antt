@@ -1,5 +1,5 @@
 -- The joined tests are one law, and their number another.
-use Rattle.tags.proofs.ValueLaws.{test-number}
+use Rattle.pieces.proofs.ValueLaws.{test-number}
 use Rattle.tags.proofs.NameLaws.{letter-test}
 use borrow.Author.Needs.{needs}
 use Rattle.tags.proofs.attributes.lettered.Statement.{statement}

@@ -1,0 +1,4 @@
+pub mod Says
+pub mod Numerals
+pub mod Parts
+pub mod Only
