@@ -2,8 +2,8 @@
 use borrow.Author.Needs.{needs}
 use Prim.Native.Nat.{_-_}
 use mathlib.Core.Path.{_≡_}
-use Rattle.case_words.proofs.numbers.scan.Statement.{statement}
-use Rattle.case_words.proofs.numbers.scan.Tie as tie
+use Rattle.case_asks.proofs.numbers.scan.Statement.{statement}
+use Rattle.case_asks.proofs.numbers.scan.Tie as tie
 
 abbrev Inv-loop : tie.InvT-loop
 Inv-loop v from to s₀ i₀ s i = i ≡ i

@@ -1,7 +1,7 @@
 // An input listed by windows that grow by few bytes, by more, and by a message's size.
-use crate::show::put;
-use crate::show::small;
-use crate::show::told;
+use case_words::show::put;
+use case_words::show::small;
+use case_words::show::told;
 use lines::Listed;
 
 /// Bytes at..len of the input are in the window; the last line is printed or not.

@@ -1,7 +1,7 @@
 // What decoded bytes are worth.
-use crate::line::byte;
-use crate::show::put;
-use crate::show::told;
+use case_words::line::byte;
+use case_words::show::put;
+use case_words::show::told;
 use number::NumberRead;
 use number::WholeRead;
 use numerals::Scan;

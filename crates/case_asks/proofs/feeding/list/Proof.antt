@@ -1,8 +1,8 @@
 -- `list` ends: its turns are counted.
 use borrow.Author.Needs.{needs}
 use mathlib.Core.Path.{_≡_}
-use Rattle.case_words.proofs.feeding.list.Statement.{statement}
-use Rattle.case_words.proofs.feeding.list.Tie as tie
+use Rattle.case_asks.proofs.feeding.list.Statement.{statement}
+use Rattle.case_asks.proofs.feeding.list.Tie as tie
 
 abbrev Inv-loop : tie.InvT-loop
 Inv-loop s more w₀ turns₀ w turns = turns ≡ turns

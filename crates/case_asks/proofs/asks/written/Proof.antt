@@ -3,8 +3,8 @@ use borrow.Author.Needs.{needs}
 use native.Mathlib.Omega.{arith}
 use mathlib.Core.Path.{sym}
 use lib.Seq.{length-take-le}
-use Rattle.cases.proofs.asks.written.Statement.{statement}
-use Rattle.cases.proofs.asks.written.Tie as tie
+use Rattle.case_asks.proofs.asks.written.Statement.{statement}
+use Rattle.case_asks.proofs.asks.written.Tie as tie
 
 write-requires : tie.Need-write-requires
 write-requires c κs = search needs

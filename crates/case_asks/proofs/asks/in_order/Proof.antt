@@ -4,8 +4,8 @@ use native.Mathlib.Omega.{arith}
 use Prim.Native.Nat.{_≤_, _-_}
 use lib.ListN.{length}
 use mathlib.Core.Path.{_≡_}
-use Rattle.cases.proofs.asks.in_order.Statement.{statement}
-use Rattle.cases.proofs.asks.in_order.Tie as tie
+use Rattle.case_asks.proofs.asks.in_order.Statement.{statement}
+use Rattle.case_asks.proofs.asks.in_order.Tie as tie
 
 abbrev Inv-loop : tie.InvT-loop
 Inv-loop id range cells i₀ i = (i ≤ 24) × (length cells ≡ 72)

@@ -1,7 +1,8 @@
 // Calls that change no lane. `check NAME`: what reading answers, and behind the semicolon what checking does, with the values of an accepted message in
 // table order: an absent one is `-`, a text its place and length, features their bits. `write ROOM` and a message. `move` with a record, a kind and an
 // id: what a message does to a lane, received and sent; bytes behind the tab are its ForecastId.
-use case_words::feeding::feed;
+use crate::feeding::feed;
+use crate::numbers::worth;
 use case_words::given::forecast;
 use case_words::given::id;
 use case_words::given::kind;
@@ -10,7 +11,6 @@ use case_words::given::record;
 use case_words::line::byte;
 use case_words::line::decimal;
 use case_words::line::low;
-use case_words::numbers::worth;
 use case_words::show;
 use case_words::show::put;
 use case_words::show::small;
