@@ -3,9 +3,9 @@ use mathlib.Core.Path.{_≡_, refl, sym, ap, _∙_}
 use mathlib.Core.List.{List}
 use Prim.Native.Nat.{ℕ}
 use Rattle.grammar.specs.Bytes.{Bytes}
-use Rattle.reads.specs.Whole.{handedBy, ChecksInto}
-use Rattle.reads.specs.declared.checking.Found.{Found}
-use Rattle.reads.proofs.Theorems.{check-only}
+use Rattle.message.specs.Checked.{handedBy, ChecksInto}
+use Rattle.message.specs.declared.checking.Found.{Found}
+use Rattle.message.proofs.Theorems.{check-only}
 use Rattle.message.specs.declared.checking.Checked.{Checked}
 use Rattle.c_promises.specs.Checking.{Finds}
 

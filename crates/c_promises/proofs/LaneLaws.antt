@@ -1,5 +1,5 @@
 -- The lane records that C lends: what they are, and that no second one satisfies a promise.
-use mathlib.Core.Path.{_≡_, refl, sym, ap, _∙_}
+use mathlib.Core.Path.{_≡_, sym, ap, _∙_}
 use Prim.Native.Nat.{ℕ}
 use Rattle.grammar.specs.Bytes.{Bytes}
 use Rattle.lane.specs.Record.{fresh}

@@ -1,15 +1,13 @@
 -- An answer that is known tells its numbers.
-use mathlib.Core.Path.{_≡_, refl, sym, ap, subst, _∙_}
+use mathlib.Core.Path.{_≡_, refl, sym, ap, _∙_}
 use Prim.Native.Nat.{ℕ}
 use Rattle.grammar.specs.Bytes.{Bytes}
-use Rattle.grammar.specs.Answer.{Answers, answerNumber}
+use Rattle.grammar.specs.Answer.{Answer, Answers, answerNumber}
 use Rattle.model.specs.Theorems.{answers-only}
-use Rattle.reader.specs.Answer.{paper}
-use Rattle.reader.specs.declared.answer.Answer.{Answer}
 use Rattle.c_promises.specs.Reading.{startOf, placeOf, Told}
 
-pub told : (s : Bytes) (r a : Answer) → r ≡ a → Answers s (paper r) → Told s (answerNumber (paper a)) (startOf (paper a)) (placeOf (paper a))
-told s r a e p = record { answer = paper a; answers = subst (λ (x : Answer). Answers s (paper x)) e p; numbers = refl; starts = refl; places = refl }
+pub told : (s : Bytes) (a : Answer) → Answers s a → Told s (answerNumber a) (startOf a) (placeOf a)
+told s a p = record { answer = a; answers = p; numbers = refl; starts = refl; places = refl }
 
 -- no second three numbers satisfy the promise of `tryphomel_read`
 pub told-only : {s : Bytes} {n a b n′ a′ b′ : ℕ} → Told s n a b → Told s n′ a′ b′ → (n ≡ n′) × (a ≡ a′) × (b ≡ b′)

@@ -15,8 +15,7 @@ use Rattle.lane.specs.declared.Moved.{Moved}
 use Rattle.lane.specs.declared.chart.Step.{Step}
 use Rattle.lane.specs.declared.chart.Step.the-variants.{To, NoTransition}
 use Rattle.message.specs.declared.checking.Checked.{Checked}
-use Rattle.message.specs.declared.cells.Message.{Message}
-use Rattle.events.specs.Events.{eventOf}
+use Rattle.meant.specs.Events.{eventOf}
 use Rattle.promises.specs.Receiving.{movedBy, told, answerOf, Receives, receivedBy, ReceivesInto}
 use Rattle.promises.specs.declared.Receipt.{Receipt}
 use Rattle.promises.specs.declared.Received.{Received}

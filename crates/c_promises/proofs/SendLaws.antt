@@ -16,7 +16,7 @@ use Rattle.message.specs.Messages.{atMost, messageBy}
 use Rattle.message.specs.declared.cells.Message.{Message}
 use Rattle.meant.specs.Meant.{refusalOf}
 use Rattle.meant.specs.Written.{writtenOf}
-use Rattle.events.specs.Events.{eventSent}
+use Rattle.meant.specs.Events.{eventSent}
 use Rattle.promises.specs.Sending.{movedBy, answerOf, Sends}
 use Rattle.promises.specs.declared.Sent.{Sent}
 use Rattle.promises.proofs.Theorems.{send-only}

@@ -19,12 +19,12 @@ use lane::Event;
 use lane::Forecast;
 use lane::Lane;
 use lane::Moved;
+use meant::Written;
 use message::Checked;
 use message::Message;
 use message::cells::NUMBERS;
 use reader::answer::Answer;
 use rows::data::Range;
-use writes::Written;
 
 /// The room of a buffer for what is written.
 const ROOM: usize = 6500;

@@ -45,7 +45,7 @@ fn turn(s: &[u8], w: Window, more: usize) -> Window {
     if len < at {
         return w;
     }
-    let listed = lines::list_step(&s[at..len], len == s.len());
+    let listed = lists::list_step(&s[at..len], len == s.len());
     match listed {
         Listed::Line {
             start,

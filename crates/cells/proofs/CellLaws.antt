@@ -1,17 +1,14 @@
 -- One value from its cell: absent where the first number is 0.
-use mathlib.Core.Path.{_≡_, refl, sym, ap, _∙_}
+use mathlib.Core.Path.{_≡_, sym, ap, _∙_}
 use mathlib.Core.Bool.{Bool, true, false, not, cond}
 use Prim.Native.Nat.{ℕ}
 use borrow.Author.Tests.{ne-eqb, eq-eqb}
 use Rattle.grammar.specs.Bytes.{Bytes}
 use Rattle.value.specs.Ids.{noId}
 use Rattle.value.specs.declared.id.Guid.{Guid}
-use Rattle.value.specs.declared.text.Words.{Words}
 use Rattle.value.specs.declared.text.Words.the-variants.{Absent as NoWords, Present as IsWords}
 use Rattle.message.specs.Cells.{isThere, wordsBy, wholeBy, measureBy, guidBy}
-use Rattle.message.specs.declared.values.Whole.{Whole}
 use Rattle.message.specs.declared.values.Whole.the-variants.{Absent as NoWhole, Present as IsWhole}
-use Rattle.message.specs.declared.values.Measure.{Measure}
 use Rattle.message.specs.declared.values.Measure.the-variants.{Absent as NoMeasure, Present as IsMeasure}
 
 -- a number that a comparison with 0 has told

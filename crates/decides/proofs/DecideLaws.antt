@@ -1,6 +1,6 @@
 -- The loop over the rows, and from an outline to what decides over the one reading.
 use mathlib.Core.Path.{_≡_, refl, sym, ap, subst, _∙_}
-use mathlib.Core.List.{List, [], _∷_}
+use mathlib.Core.List.{List}
 use mathlib.Core.Bool.{Bool, true, false, cond}
 use Prim.Native.Nat.{ℕ, zero, suc, _+_, _-_, _≤_, _<_}
 use native.Mathlib.Omega.{arith}
@@ -8,19 +8,19 @@ use lib.ListN.{length, take, drop}
 use lib.Dec.{eqb}
 use borrow.Author.Tests.{eq-eqb, ne-eqb}
 use Rattle.grammar.specs.Bytes.{Bytes}
-use Rattle.grammar.specs.Tree.{Tree, tree, Forest}
+use Rattle.grammar.specs.Tree.{tree, Forest}
 use Rattle.grammar.specs.Element.{readElement}
 use Rattle.grammar.specs.Message.{readLayout}
-use Rattle.reader.specs.Answer.{Accepted, Outlined}
+use Rattle.reader.specs.Answer.{Outlined}
 use Rattle.reader.specs.declared.answer.Answer.the-variants.{Ends, More, Malformed, TooLong}
 use Rattle.reader.specs.declared.answer.Outline.{Outline}
 use Rattle.value.specs.declared.text.Words.{Words}
 use Rattle.value.specs.declared.text.Words.the-variants.{Absent}
-use Rattle.table.specs.Table.{Row, Form, words, someWords, whole, guid, version, positive, features, kindOf, rowsOf}
+use Rattle.table.specs.Table.{Row, words, someWords, whole, guid, version, positive, features, rowsOf}
 use Rattle.table.specs.Theorems.{rows-table}
-use Rattle.table.specs.Says.{refusalIn, tried, childOf, childrenOf, saidOf}
+use Rattle.table.specs.Says.{childOf, childrenOf, saidOf}
 use Rattle.message.specs.Checked.{placesIn}
-use Rattle.rows.specs.Coding.{attributeForm, formIn, nameAt, rowOf, codedAt, rowsFrom}
+use Rattle.rows.specs.Coding.{attributeForm, nameAt, rowOf, codedAt, rowsFrom}
 use Rattle.rows.specs.declared.data.Row.{Row as Coded}
 use Rattle.rows.proofs.CodingLaws.{next-row, no-row}
 use Rattle.reads.specs.Held.{Held, Found, pairs, place}

@@ -14,9 +14,9 @@ use Rattle.model.specs.Theorems.{one-layout, answers-only}
 use Rattle.value.specs.declared.text.Words.{Words}
 use Rattle.table.specs.Table.{Row, Entry}
 use Rattle.table.specs.Says.{refusalIn, tried, first, refusalOf, childOf, rowsFor, saidIn}
-use Rattle.message.specs.Checked.{placesIn, checkedIn, unread, ChecksBy, ends as endsSo, more as moreSo, malformed as malformedSo, too-long as tooLongSo}
+use Rattle.message.specs.Checked.{placesIn, ChecksBy, ends as endsSo, more as moreSo, malformed as malformedSo, too-long as tooLongSo}
 use Rattle.message.specs.declared.checking.Checked.{Checked}
-use Rattle.decides.specs.Deciding.{valueIn, unruled, ruledBy, firstRefused, decidedIn, undecided, DecidesBy, ends, more, malformed, too-long}
+use Rattle.decides.specs.Deciding.{valueIn, ruledBy, firstRefused, decidedIn, undecided, DecidesBy, ends, more, malformed, too-long}
 use Rattle.decides.specs.declared.Ruling.{Ruling}
 use Rattle.decides.specs.declared.Decision.{Decision}
 

@@ -1,18 +1,17 @@
 -- The value ForecastId of a message of cells, by its kind; and its bytes as a lane keeps them.
 use mathlib.Core.Path.{_≡_, refl, sym, ap, subst, _∙_}
-use mathlib.Core.List.{List, [], _∷_, _++_, append-nil}
+use mathlib.Core.List.{List, [], _∷_, _++_}
 use mathlib.Core.Bool.{Bool, true, false, _&&_, cond}
 use Prim.Native.Nat.{ℕ, zero, suc, _+_, _-_, _≤_, _<_}
 use native.Mathlib.Omega.{arith}
 use lib.ListN.{length, length-replicate, length-drop, take, drop, getD, set, replicate}
 use lib.Seq.{take-all, length-take-le}
-use lib.Dec.{eqb, leb}
-use borrow.Author.Tests.{ne-eqb, eq-eqb, leb-true, leb-false, le-leb, lt-leb}
+use lib.Dec.{leb}
+use borrow.Author.Tests.{ne-eqb, leb-true, leb-false, le-leb, lt-leb}
 use Rattle.grammar.specs.Bytes.{Bytes, text}
 use Rattle.lane.specs.Record.{noForecast}
 use Rattle.lane.specs.declared.Event.{Event}
 use Rattle.lane.specs.declared.ids.Forecast.{Forecast}
-use Rattle.value.specs.Text.{Text}
 use denote.Ref.{RefT, now}
 use Rattle.value.specs.Asking.{paper, TextSays}
 use Rattle.value.specs.Parts.{partAt, Lies}
@@ -21,15 +20,15 @@ use Rattle.value.specs.declared.text.TextAt.{TextAt}
 use Rattle.value.specs.declared.text.Span.{Span}
 use Rattle.value.specs.declared.text.Words.{Words}
 use Rattle.value.specs.declared.text.Words.the-variants.{Absent as NoWords, Present as IsWords}
-use Rattle.table.specs.Table.{Row, table, rowsOf}
+use Rattle.table.specs.Table.{Row, table}
 use Rattle.message.specs.Fields.{theWords}
 use Rattle.message.specs.Cells.{NUMBERS, cellAt, wordsBy, fieldBy, fieldsFrom}
 use Rattle.message.specs.Messages.{messageBy, fieldsOf, calledIn}
 use Rattle.meant.specs.Meant.{textAt}
 use Rattle.rows.specs.Coding.{KINDS, rowsFrom}
 use Rattle.rows.proofs.CodingLaws.{listed, listed-same, above}
-use Rattle.events.specs.Events.{Carried, no-forecast, a-forecast, forecastOf, forecastId, forecastCell, Carries, carries-none, carries-one, carriedIn}
-use Rattle.events.specs.Says.{Sound, Kept, Reads, Names, eventWith, Got, Given}
+use Rattle.meant.specs.Events.{Carried, no-forecast, a-forecast, forecastOf, forecastId, carries-none, carries-one, carriedIn, Sound, eventWith}
+use Rattle.events.specs.Says.{forecastCell, Got, Given, Kept, Reads, Names}
 
 -- where the cell stands
 pub cell-else : (k : ℕ) → (k ≡ 5 → ⊥) → (k ≡ 11 → ⊥) → NUMBERS ≡ forecastCell k
@@ -59,10 +58,6 @@ module _ (cells : List ℕ) (id : Bytes) where
       go : (b : Bool) → leb k KINDS ≡ b → named k ≡ placed k
       go true e = listed-same named placed (suc KINDS) k all-placed (let z = leb-true k KINDS e in omega arith)
       go false e = none-placed k (leb-false k KINDS e)
-
--- whatever its BoardId
-pub forecast-any : (k : ℕ) (cells : List ℕ) (i j : Bytes) → forecastId (messageBy k cells i) ≡ forecastId (messageBy k cells j)
-forecast-any k cells i j = named-placed cells i k ∙ sym (named-placed cells j k)
 
 pub names-none : (k : ℕ) (cells : List ℕ) {at : ℕ} → at ≡ forecastCell k → NUMBERS ≤ at → Names k cells NoWords
 names-none k cells {at} e h = record { says = λ id. sym (named-placed cells id k ∙ ap (λ (n : ℕ). wordsAt n cells) (sym e) ∙ rw (le-leb NUMBERS at h) refl) }

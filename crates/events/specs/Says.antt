@@ -1,21 +1,24 @@
 -- What the functions of the crate promise.
 use mathlib.Core.Path.{_≡_}
-use mathlib.Core.List.{List, _++_}
+use mathlib.Core.List.{List}
+use mathlib.Core.Bool.{cond}
 use Prim.Native.Nat.{ℕ, _+_, _≤_, _<_}
-use lib.ListN.{length, take, drop, replicate}
+use lib.ListN.{length, take, drop}
+use lib.Dec.{eqb}
+use Rattle.lane.specs.Names.{MachineReady, BoardForecast}
 use Rattle.lane.specs.declared.Event.{Event}
 use Rattle.lane.specs.declared.ids.Forecast.{Forecast}
 use Rattle.grammar.specs.Bytes.{Bytes}
 use Rattle.value.specs.Text.{Text}
 use Rattle.value.specs.declared.text.Span.{Span}
 use Rattle.value.specs.declared.text.Words.{Words}
-use Rattle.value.specs.declared.text.Words.the-variants.{Present as IsWords}
+use Rattle.message.specs.Cells.{NUMBERS}
 use Rattle.message.specs.Messages.{messageBy}
-use Rattle.events.specs.Events.{Carried, no-forecast, a-forecast, forecastOf, isThere, forecastId, Carries, carriedIn}
+use Rattle.meant.specs.Events.{Carried, no-forecast, a-forecast, forecastOf, eventWith, forecastId, Carries, carriedIn}
 
--- a text of s that `check` let pass: of at most 80 bytes
-abbrev pub Sound : Bytes → Words → Type 0
-Sound s w = (p : Span) → w ≡ IsWords p → (v : Bytes) × Text (take (p .len) (drop (p .start) s)) v × (p .start + p .len ≤ length s) × (length v ≤ 80)
+-- where the cell of a ForecastId stands: in a MachineReady the second, in a BoardForecast the first; behind all cells if the kind has none
+abbrev pub forecastCell : ℕ → ℕ
+forecastCell k = cond (eqb k MachineReady) 3 (cond (eqb k BoardForecast) 0 NUMBERS)
 
 -- bytes as a lane keeps them: more than 80 are none
 pub record Kept (v : Bytes) (r : Forecast) : Type 0 where
@@ -29,9 +32,6 @@ pub record Reads (s : Bytes) (p : Span) (r : Forecast) : Type 0 where
 -- the value ForecastId of a message of cells
 pub record Names (k : ℕ) (cells : List ℕ) (w : Words) : Type 0 where
   pub says : (id : Bytes) → w ≡ forecastId (messageBy k cells id)
-
-abbrev pub eventWith : ℕ → Bytes → Carried → Event
-eventWith k id f = record { kind = k; id = id; carries = isThere f; forecast = forecastOf f }
 
 -- the event of a message of cells that was received in s, whose BoardId is `id`
 pub record Got (s : Bytes) (k : ℕ) (cells : List ℕ) (id : Bytes) (r : Event) : Type 0 where

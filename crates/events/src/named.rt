@@ -1,8 +1,6 @@
 // The ForecastId of a message.
 ghost use mathlib.Core.Path.{_≡_};
-ghost use mathlib.Core.List.{List};
-ghost use Rattle.events.specs.Events.{forecastCell};
-ghost use Rattle.events.specs.Says.{Kept, Names};
+ghost use Rattle.events.specs.Says.{forecastCell, Kept, Names};
 use cells::cell;
 use cells::text_from;
 use lane::Forecast;

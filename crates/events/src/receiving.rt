@@ -1,8 +1,8 @@
 // The event of a message that was received.
 ghost use Rattle.grammar.specs.Bytes.{Bytes};
 ghost use Rattle.message.specs.Messages.{messageBy};
-ghost use Rattle.events.specs.Events.{forecastId};
-ghost use Rattle.events.specs.Says.{Sound, Reads, Got};
+ghost use Rattle.meant.specs.Events.{forecastId, Sound};
+ghost use Rattle.events.specs.Says.{Got, Reads};
 use crate::named::forecast_words;
 use crate::named::kept;
 use lane::Event;

@@ -1,7 +1,7 @@
 // The event of a message that is to be sent.
 ghost use mathlib.Core.Path.{_≡_};
-ghost use Rattle.events.specs.Events.{no-forecast};
-ghost use Rattle.events.specs.Says.{eventWith, Given};
+ghost use Rattle.meant.specs.Events.{no-forecast, eventWith};
+ghost use Rattle.events.specs.Says.{Given};
 use crate::named::LONGEST;
 use crate::named::forecast_words;
 use crate::named::kept;

@@ -1,10 +1,10 @@
 -- Readers that look one byte ahead: the end of a word is told by the byte behind it, which what follows reads again.
-use mathlib.Core.Path.{_≡_, refl, sym, ap, subst, _∙_}
+use mathlib.Core.Path.{_≡_, refl, sym, ap, _∙_}
 use mathlib.Core.List.{[], _∷_, _++_, append-assoc, append-nil}
 use mathlib.Core.Logic.{_⊎_, inl, inr}
 use mathlib.Core.Bool.{Bool, true}
 use Prim.Native.Nat.{ℕ}
-use Rattle.exact.specs.Exact.{Word, Lang, Out, done, more, bad, Reader, Seen, isDone, isMore, isBad, Exact, inhabited, unique, unfinished-more, snoc-split, cons≢nil, done≢more}
+use Rattle.exact.specs.Exact.{Word, Lang, Out, done, more, Reader, Seen, isDone, isMore, isBad, Exact, inhabited, unique, unfinished-more, snoc-split, cons≢nil, done≢more}
 use Rattle.exact.specs.Chain.{Seq, seq, andThen, bindP}
 use Rattle.exact.specs.Byte.{Starts, starts}
 

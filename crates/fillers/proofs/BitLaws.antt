@@ -1,8 +1,7 @@
 -- Bits of filler at places of a list: text, glue, and what `<` begins.
 use mathlib.Core.Path.{_≡_, refl, sym, ap, subst, _∙_}
 use mathlib.Core.List.{List, [], _∷_, _++_}
-use mathlib.Core.Logic.{_⊎_, inl, inr}
-use mathlib.Core.Bool.{Bool, true, false, not, cond}
+use mathlib.Core.Bool.{Bool, true, false, cond}
 use Prim.Native.Nat.{ℕ, zero, suc, _+_, _-_, _≤_, _<_}
 use native.Mathlib.Omega.{arith}
 use lib.ListN.{length, take, drop, getD, length-drop}
@@ -12,14 +11,13 @@ use borrow.Author.Tests.{eq-eqb, ne-eqb, leb-true, leb-false}
 use Rattle.exact.specs.Exact.{Out, done, more, bad, sound}
 use Rattle.exact.specs.Chain.{retP, andThen, clash}
 use Rattle.exact.specs.Byte.{eqb-true}
-use Rattle.exact.specs.Ahead.{Ahead}
 use Rattle.exact.specs.Loop.{again, onward, loopP}
 use Rattle.grammar.specs.Bytes.{Bytes, every, within}
 use Rattle.grammar.specs.Glue.{isGlue}
 use Rattle.grammar.specs.Character.{isChar, utf8}
 use Rattle.grammar.specs.Value.{Item, raw, ref, spellItem, banned}
 use Rattle.grammar.specs.Comment.{Mark}
-use Rattle.grammar.specs.Filler.{Site, inRoot, belowRoot, Bit, inText, comment, Filler, brackets, stopper}
+use Rattle.grammar.specs.Filler.{Site, inRoot, belowRoot, inText, comment, Filler, brackets, stopper}
 use Rattle.model.specs.Tests.{and-left, and-right}
 use Rattle.model.specs.Characters.{plainByte, charP}
 use Rattle.model.specs.Values.{itemP, item-exact}
@@ -29,7 +27,7 @@ use Rattle.model.specs.Fillers.{textP, stopper-stops, FillAcc, added, ended, te
 use Rattle.scan.specs.Pieces.{Skipped}
 use Rattle.pieces.proofs.CharacterLaws.{plain-other, text-low}
 use Rattle.fillers.specs.Fills.{PlainRun, bitsP, calmly}
-use Rattle.fillers.proofs.CommentLaws.{plain-apart, plain-no-lt, plain-no-amp, plain-no-stop, plain-low}
+use Rattle.fillers.proofs.CommentLaws.{plain-no-lt, plain-no-amp, plain-no-stop, plain-low}
 
 -- one turn
 module _ (s : Site) (a : FillAcc) where

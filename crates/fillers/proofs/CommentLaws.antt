@@ -2,14 +2,14 @@
 use mathlib.Core.Path.{_≡_, refl, sym, ap, subst, _∙_}
 use mathlib.Core.List.{List, [], _∷_}
 use mathlib.Core.Logic.{_⊎_, inl, inr}
-use mathlib.Core.Bool.{Bool, true, false, _&&_, _||_, not}
+use mathlib.Core.Bool.{Bool, true, false}
 use Prim.Native.Nat.{ℕ, zero, suc, _+_, _-_, _≤_, _<_}
 use native.Mathlib.Omega.{arith}
 use native.Mathlib.Numerals.{add-one}
 use lib.ListN.{length, drop, getD, drop-of-length-le}
 use lib.Seq.{drop-cons}
 use lib.Dec.{eqb, leb}
-use borrow.Author.Tests.{eq-eqb, ne-eqb}
+use borrow.Author.Tests.{ne-eqb}
 use Rattle.exact.specs.Exact.{Out, done, more, bad}
 use Rattle.exact.specs.Chain.{retP, andThen, clash}
 use Rattle.exact.specs.Byte.{pick}
@@ -20,17 +20,17 @@ use Rattle.grammar.specs.Comment.{Mark, mark, dashMark}
 use Rattle.grammar.specs.Value.{banned}
 use Rattle.model.specs.Tests.{and-left}
 use Rattle.model.specs.Characters.{plainByte, charP}
-use Rattle.model.specs.Comments.{isDash, noDashP, MarkAcc, markTurn, dashTurn, dashP, markP, marksP, marks-eq, commentP}
+use Rattle.model.specs.Comments.{isDash, noDashP, MarkAcc, dashP, markP, marksP, marks-eq, commentP}
 use Rattle.scan.specs.Pieces.{Got as StepSays, byteP, wordP, chained}
 use Rattle.scan.specs.Unfold.{then-and}
-use Rattle.scan.proofs.Chain.{then-done, then-more, then-bad, Fails as StepFails, pass as step-pass, last as step-last, moved as step-moved}
+use Rattle.scan.proofs.Chain.{then-done, Fails as StepFails, pass as step-pass, last as step-last, moved as step-moved}
 use Rattle.scan.specs.declared.Step.{Step}
-use Rattle.scan.specs.declared.Step.the-variants.{Done, Open as Unended, Bad as Dead}
+use Rattle.scan.specs.declared.Step.the-variants.{Done, Open as Unended}
 use Rattle.pieces.specs.Says.{Known, Says, stepOf}
 use Rattle.pieces.proofs.Answers.{Fails, pass, moved, stepped}
 use Rattle.pieces.proofs.CharacterLaws.{plain-quote}
 use Rattle.pieces.specs.declared.Piece.{Piece}
-use Rattle.pieces.specs.declared.Piece.the-variants.{Got, Open, Bad}
+use Rattle.pieces.specs.declared.Piece.the-variants.{Got, Open}
 use Rattle.fillers.specs.Fills.{PlainRun, PastDash}
 
 -- a plain byte is a character that is no `-`; so are `<` and `&`

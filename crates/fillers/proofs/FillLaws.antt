@@ -9,20 +9,19 @@ use lib.ListN.{length, drop, getD, drop-of-length-le}
 use lib.Seq.{drop-cons}
 use lib.Dec.{eqb}
 use borrow.Author.Tests.{not-true, eqb-false}
-use Rattle.exact.specs.Exact.{Out, done, more, bad}
+use Rattle.exact.specs.Exact.{Out, done, bad}
 use Rattle.exact.specs.Ahead.{Ahead}
 use Rattle.grammar.specs.Bytes.{Bytes}
 use Rattle.grammar.specs.Glue.{isGlue}
-use Rattle.grammar.specs.Comment.{Mark}
 use Rattle.grammar.specs.Filler.{Site, inRoot, belowRoot, comment, Filler}
 use Rattle.model.specs.Comments.{commentP}
-use Rattle.model.specs.Fillers.{textP, FillAcc, added, ended, peekP}
+use Rattle.model.specs.Fillers.{textP, FillAcc, added, peekP}
 use Rattle.scan.specs.Pieces.{Got, Skipped, chained}
 use Rattle.scan.specs.Unfold.{then-and, and-and}
 use Rattle.scan.proofs.Chain.{then-done, then-more, then-bad, Fails, never, pass}
 use Rattle.scan.specs.declared.Step.{Step}
 use Rattle.scan.specs.declared.Step.the-variants.{Done, Open, Bad}
-use Rattle.fillers.specs.Fills.{siteOf, fillTok, GotFiller, TagAt, bitsP, calmly, GapCase, GotGap}
+use Rattle.fillers.specs.Fills.{siteOf, fillTok, GotFiller, TagAt, bitsP, calmly, GotGap}
 use Rattle.fillers.proofs.BitLaws.{bits-end, bits-text, bits-short, bits-stop, bits-comment, glue-run}
 
 root-text : (b : ℕ) (t : Bytes) → isGlue b ≡ false → textP inRoot 0 (b ∷ t) ≡ bad (b ∷ t)

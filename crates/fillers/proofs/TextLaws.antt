@@ -3,27 +3,27 @@ use mathlib.Core.Path.{_≡_, refl, sym, ap, subst, _∙_}
 use mathlib.Core.List.{_∷_}
 use mathlib.Core.Logic.{_⊎_, inl, inr}
 use mathlib.Core.Bool.{Bool, true, false, cond}
-use Prim.Native.Nat.{ℕ, suc, _+_, _-_, _≤_, _<_}
+use Prim.Native.Nat.{ℕ, suc, _-_, _≤_, _<_}
 use native.Mathlib.Omega.{arith}
 use lib.ListN.{length, drop, getD, drop-of-length-le}
 use lib.Seq.{drop-cons}
 use lib.Dec.{eqb}
-use Rattle.exact.specs.Exact.{Out, done, more, bad}
+use Rattle.exact.specs.Exact.{Out}
 use Rattle.exact.specs.Chain.{andThen}
 use Rattle.grammar.specs.Bytes.{Bytes}
 use Rattle.grammar.specs.Value.{Item}
-use Rattle.grammar.specs.Filler.{Site, belowRoot, inText, Filler, brackets, stopper}
+use Rattle.grammar.specs.Filler.{belowRoot, inText, Filler, brackets, stopper}
 use Rattle.model.specs.Values.{itemP}
 use Rattle.model.specs.Fillers.{textP, FillAcc, added}
 use Rattle.scan.proofs.Chain.{never}
 use Rattle.scan.specs.declared.Step.{Step}
-use Rattle.scan.specs.declared.Step.the-variants.{Done, Open as Unended, Bad as Dead}
+use Rattle.scan.specs.declared.Step.the-variants.{Done, Open as Unended}
 use Rattle.pieces.specs.Says.{Known, Says, stepOf}
 use Rattle.pieces.specs.Parts.{codePoint}
 use Rattle.pieces.proofs.Answers.{Fails}
 use Rattle.pieces.specs.declared.Piece.{Piece}
 use Rattle.pieces.specs.declared.Piece.the-variants.{Got, Open, Bad}
-use Rattle.fillers.specs.Fills.{Cleared, bitsP, calmly, GapCase, GotGap}
+use Rattle.fillers.specs.Fills.{Cleared, bitsP, calmly, GotGap}
 use Rattle.fillers.proofs.BitLaws.{bits-end, bits-text, plain-run, item-row}
 
 -- n `]` stand in a row

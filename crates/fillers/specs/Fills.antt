@@ -7,14 +7,14 @@ use Prim.Native.Nat.{ℕ, _+_, _≤_, _<_}
 use Prim.Native.Char.{code}
 use native.Mathlib.Omega.{arith}
 use lib.ListN.{length, drop, getD}
-use Rattle.exact.specs.Exact.{Word, Out, done, more, bad, Reader, sound}
-use Rattle.exact.specs.Ahead.{Ahead, Peek, putBack}
+use Rattle.exact.specs.Exact.{Out, done, more, bad, Reader, sound}
+use Rattle.exact.specs.Ahead.{Ahead, putBack}
 use Rattle.exact.specs.Loop.{loopP}
 use Rattle.grammar.specs.Bytes.{Bytes}
 use Rattle.grammar.specs.Value.{banned}
 use Rattle.grammar.specs.Filler.{Site, inRoot, belowRoot, Filler, spellFiller, GoodFiller}
 use Rattle.model.specs.Characters.{plainByte}
-use Rattle.model.specs.Fillers.{noBang, FillAcc, bitP, peekP, FillLt, peek-exact, fillP}
+use Rattle.model.specs.Fillers.{noBang, FillAcc, bitP, peekP, peek-exact, fillP}
 use Rattle.scan.specs.Pieces.{Got, chained}
 use Rattle.scan.specs.Unfold.{then-and, and-ext, and-and}
 use Rattle.scan.specs.declared.Step.{Step}

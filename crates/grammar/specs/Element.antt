@@ -1,5 +1,5 @@
 -- Elements and their content.
-use mathlib.Core.List.{List, [], _∷_, _++_}
+use mathlib.Core.List.{List, [], _∷_}
 use Prim.Native.Nat.{ℕ, suc}
 use Rattle.grammar.specs.Bytes.{Bytes, text, joined}
 use Rattle.grammar.specs.Glue.{Glue}

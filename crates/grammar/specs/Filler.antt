@@ -7,7 +7,6 @@ use Prim.Native.Char.{code}
 use lib.Dec.{eqb, leb}
 use Rattle.grammar.specs.Bytes.{Bytes}
 use Rattle.grammar.specs.Glue.{isGlue}
-use Rattle.grammar.specs.Reference.{Reference}
 use Rattle.grammar.specs.Value.{Item, raw, ref, spellItem, GoodItem}
 use Rattle.grammar.specs.Comment.{Mark, spellComment, GoodMarks}
 

@@ -15,4 +15,5 @@ pub mod Declaration
 pub mod Message
 pub mod Answer
 pub mod Cut
+pub mod Places
 pub mod Examples

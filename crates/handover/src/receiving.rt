@@ -3,9 +3,10 @@ ghost use mathlib.Core.Path.{_≡_};
 ghost use mathlib.Core.Bool.{true};
 ghost use lib.ListN.{replicate};
 ghost use Rattle.message.specs.Cells.{NUMBERS as MANY};
-ghost use Rattle.reads.specs.Whole.{ChecksInto};
-ghost use Rattle.events.specs.Says.{Sound};
-ghost use Rattle.promises.specs.Receiving.{asksBy, movedFor, noReceipt, refusedBy, toldBy, Answers, Finishes, Receives, ReceivesInto};
+ghost use Rattle.message.specs.Checked.{ChecksInto};
+ghost use Rattle.meant.specs.Events.{Sound};
+ghost use Rattle.handover.specs.Inner.{asksBy, noReceipt, refusedBy, toldBy, Answers, Finishes};
+ghost use Rattle.promises.specs.Receiving.{movedFor, Receives, ReceivesInto};
 use cells::clear;
 use cells::text_from;
 use events::received_event;
@@ -14,16 +15,16 @@ use lane::Kind;
 use lane::Lane;
 use lane::Moved;
 use lane::Order;
+use meant::Written;
+use message::Found;
 use message::Message;
 use message::cells::NUMBERS;
 use promises::Receipt;
 use promises::Received;
-use reads::Found;
 use reads::check_outlined;
 use reads::features::sort_of;
 use tags::attributes::PLACES;
 use value::Words;
-use writes::Written;
 
 // Whether a message is a CheckAlive of Type 1, by its first cell.
 fn asks_reply(kind: u8, there: u64, n: u64) -> bool

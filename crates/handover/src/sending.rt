@@ -2,15 +2,15 @@
 ghost use mathlib.Core.Path.{_≡_};
 ghost use Rattle.promises.specs.Sending.{kept as keptBy, mayNot, Sends};
 ghost use Rattle.message.specs.Messages.{messageBy};
-ghost use Rattle.writes.specs.Writes.{Writes};
+ghost use Rattle.meant.specs.Writes.{Writes};
 use cells::named_id;
 use events::sent_event;
 use lane::Lane;
 use lane::Order;
 use lane::Refusal;
+use meant::Written;
 use message::Message;
 use promises::Sent;
-use writes::Written;
 
 // A refusal keeps the lane.
 fn kept(lane: Lane, refusal: u8) -> Sent

@@ -1,7 +1,7 @@
 -- Worked examples: the numbers, and what the definitions say for each state and just beyond. They hold by computation.
 use mathlib.Core.Path.{_≡_, refl}
 use mathlib.Core.List.{List, [], _∷_, _++_}
-use mathlib.Core.Bool.{Bool, true, false}
+use mathlib.Core.Bool.{true, false}
 use Prim.Native.Nat.{ℕ}
 use lib.ListN.{replicate}
 use Rattle.lane.specs.Names.{U, D, NotConnected, DescribedDown, Idle, Offered, Ready, Both, Transporting, Stopped, Finished, Unknown, ServiceDescription, Notification, BoardAvailable, RevokeBoardAvailable, MachineReady, RevokeMachineReady, StartTransport, StopTransport, TransportFinished, CheckAlive, BoardForecast, NoOrder, Run, Cancel, StopNow, Accepted, MayNotBeSent, ProtocolError}

@@ -9,7 +9,7 @@ use lib.ListN.{length, take, drop, set, getD, replicate, length-append, length-t
 use lib.Seq.{ext-getD, getD-take, getD-drop, getD-append-add, getD-set-same, getD-set-other, take-take, length-take-le}
 use borrow.Author.Tests.{eq-eqb, eqb-true, eqb-false, leb-true, leb-false, le-leb, lt-leb}
 use Rattle.lane.specs.Chart.{both}
-use Rattle.lane.specs.Ids.{sameId, zeros, noForecast, padded, righted, sameForecast, idOf}
+use Rattle.lane.specs.Ids.{sameId, noForecast, padded, righted, sameForecast, idOf}
 use Rattle.lane.specs.declared.ids.Forecast.{Forecast}
 
 pub both-parts : (a b : Bool) → T (both a b) → T a × T b

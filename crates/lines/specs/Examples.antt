@@ -2,7 +2,7 @@
 use mathlib.Core.Path.{_≡_, refl}
 use mathlib.Core.List.{List, [], _∷_, _++_}
 use Rattle.grammar.specs.Bytes.{text}
-use Rattle.printing.specs.Digits.{digitsOf, printInt}
+use Rattle.number.specs.Digits.{digitsOf, printInt}
 use Rattle.lines.specs.Lines.{MessageLine}
 use Rattle.lines.specs.Text.{LF, column, lineText, lastText, linesText, listingText}
 

@@ -3,7 +3,7 @@ use mathlib.Core.Path.{_≡_}
 use mathlib.Core.Bool.{Bool, true, false}
 use Rattle.grammar.specs.Bytes.{Bytes}
 use Rattle.grammar.specs.Answer.{Answers, moreFrom}
-use Rattle.lines.specs.Lines.{MessageLine, LastLine, FirstLine, EndLine}
+use Rattle.lines.specs.Lines.{FirstLine, EndLine}
 use Rattle.lines.specs.declared.Listed.{Listed}
 use Rattle.lines.specs.declared.Listed.the-variants.{Line, Drop, End}
 

@@ -3,7 +3,7 @@ use mathlib.Core.List.{List, [], _∷_, _++_}
 use Prim.Native.Nat.{ℕ}
 use Prim.Native.Char.{code}
 use Rattle.grammar.specs.Bytes.{Bytes, text}
-use Rattle.printing.specs.Digits.{printInt}
+use Rattle.number.specs.Digits.{printInt}
 use Rattle.lines.specs.Lines.{MessageLine, LastLine}
 
 abbrev pub LF : ℕ

@@ -1,5 +1,5 @@
 -- What a window shows holds of all input that starts with it, and glue in front only moves the places.
-use mathlib.Core.Path.{_≡_, refl, sym, ap, subst, _∙_}
+use mathlib.Core.Path.{_≡_, sym, ap, subst, _∙_}
 use mathlib.Core.List.{List, [], _∷_, _++_, append-assoc, append-nil}
 use mathlib.Core.Bool.{false}
 use Prim.Native.Nat.{ℕ, _+_, _<_}

@@ -5,7 +5,7 @@ use mathlib.Core.Bool.{Bool, true, false}
 use Prim.Native.Nat.{ℕ, _+_, _-_, _^_, _<_}
 use native.Mathlib.Nat.{mod-add-mod, mod-eq-of-lt}
 use native.Mathlib.Omega.{arith}
-use lib.ListN.{length, length-append, length-drop, take, drop}
+use lib.ListN.{length, length-append, length-drop, take}
 use Rattle.exact.specs.Chain.{clash}
 use Rattle.grammar.specs.Bytes.{Bytes}
 use Rattle.number.proofs.Tests.{cases}

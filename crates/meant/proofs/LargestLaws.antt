@@ -2,7 +2,6 @@
 use mathlib.Core.Path.{_≡_, refl}
 use mathlib.Core.List.{List, [], _∷_}
 use mathlib.Core.Bool.{true}
-use Prim.Native.Nat.{ℕ}
 use lib.ListN.{length, replicate}
 use Rattle.lane.specs.Names.{BoardForecast}
 use Rattle.grammar.specs.Bytes.{Bytes, text, within}
@@ -10,7 +9,7 @@ use Rattle.grammar.specs.Character.{isChar}
 use Rattle.model.specs.Characters.{charP, plainByte}
 use Rattle.number.specs.Bytes.{digit, hex}
 use Rattle.number.specs.Guid.{may, filled, guidOf}
-use Rattle.printing.specs.Digits.{digitsOf, printInt}
+use Rattle.number.specs.Digits.{digitsOf, printInt}
 use Rattle.spelling.specs.Written.{escapeByte, escape}
 use Rattle.spelling.specs.Decided.{textFrom, isText}
 use Rattle.spelling.proofs.Theorems.{largest}

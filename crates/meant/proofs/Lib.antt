@@ -9,3 +9,6 @@ pub mod SizeLaws
 pub mod LargestLaws
 pub mod NoticeLaws
 pub mod Theorems
+pub mod ReadLaws
+pub mod ReplyLaws
+pub mod EventLaws

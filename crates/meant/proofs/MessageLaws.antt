@@ -1,11 +1,10 @@
 -- The kinds, and that what is written for one is a message.
-use mathlib.Core.Path.{_≡_, refl, sym, ap, subst, _∙_}
+use mathlib.Core.Path.{_≡_, refl, ap, subst, _∙_}
 use mathlib.Core.List.{List, [], _∷_, _++_}
 use mathlib.Core.Bool.{Bool, true, _&&_}
-use Prim.Native.Nat.{ℕ, zero, suc, _≤_, _<_}
-use native.Mathlib.Omega.{arith}
+use Prim.Native.Nat.{ℕ}
 use lib.Dec.{eqb}
-use borrow.Author.Tests.{eqb-true, eqb-false}
+use borrow.Author.Tests.{eqb-true}
 use Rattle.grammar.specs.Bytes.{Bytes, text, within, digit}
 use Rattle.grammar.specs.Name.{letter, nameStart, nameByte, Name}
 use Rattle.grammar.specs.Tree.{Tree, tree, no-trees, tree-then}
@@ -13,10 +12,9 @@ use Rattle.grammar.specs.Filler.{bits-end}
 use Rattle.grammar.specs.Element.{Element, spellElement, GoodElement, readElement}
 use Rattle.grammar.specs.Message.{Root, plain, good-plain, hermes, Message as IsMessage}
 use Rattle.model.specs.Tests.{and-left, and-right}
-use Rattle.number.proofs.Tests.{cases}
 use Rattle.table.specs.Table.{Row, Entry, table, kindIn, isKindIn, isKind, rowsIn, rowsOf, nameIn}
 use Rattle.table.specs.Theorems.{onKinds, kinds-in}
-use Rattle.table.specs.Says.{Result, valuesOf, hasAttribute, rowsFor, Said, saidIn, nameOf as named, refusalOf as refusedBy}
+use Rattle.table.specs.Says.{Result, valuesOf, hasAttribute, rowsFor, saidIn, nameOf as named, refusalOf as refusedBy}
 use Rattle.message.specs.Fields.{Field}
 use Rattle.meant.specs.Meant.{meantOf, firstIn, givenIn, rowsWith, meantIn, refusedIn, refusalBy}
 use Rattle.meant.specs.Written.{elementOf, elementBy, rooted, nameOf, writtenIn, writtenBy}

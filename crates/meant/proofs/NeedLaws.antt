@@ -1,5 +1,5 @@
 -- Rows settled by what is there: they have the same names and forms, and what is written of their fields settles them in the same way.
-use mathlib.Core.Path.{_≡_, refl, sym, ap, ap₂, _∙_}
+use mathlib.Core.Path.{_≡_, refl, sym, ap, ap₂}
 use mathlib.Core.List.{List, [], _∷_}
 use mathlib.Core.Bool.{Bool, true, false, _&&_, _||_, not, cond}
 use Prim.Native.Nat.{ℕ, suc}
@@ -11,7 +11,7 @@ use Rattle.grammar.specs.Limits.{ATTRIBUTES}
 use Rattle.model.specs.Tests.{and-left, and-right}
 use Rattle.table.specs.Table.{Need, required, optional, requiredWith, ignored, Row, rowsOf, settledNeed, settled}
 use Rattle.table.specs.Theorems.{plainNeed, plainRows, plain-table, settled-table}
-use Rattle.message.specs.Fields.{Field, none}
+use Rattle.message.specs.Fields.{Field}
 use Rattle.meant.specs.Meant.{isGiven, givenIn, rowsWith}
 use Rattle.meant.specs.Written.{writtenNeed, written}
 use Rattle.meant.proofs.RowLaws.{isName, strange, distinct, goodRows}

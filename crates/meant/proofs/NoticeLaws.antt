@@ -11,7 +11,7 @@ use borrow.Author.Tests.{le-leb}
 use Rattle.grammar.specs.Bytes.{Bytes, text, within, every}
 use Rattle.grammar.specs.Character.{isChar, utf8}
 use Rattle.number.proofs.Tests.{cases}
-use Rattle.printing.specs.Digits.{digitsOf, printInt}
+use Rattle.number.specs.Digits.{digitsOf, printInt}
 use Rattle.spelling.specs.Written.{escapeByte, escape}
 use Rattle.spelling.specs.Characters.{spell}
 use Rattle.spelling.specs.Decided.{isText}

@@ -1,5 +1,5 @@
 -- The theorems of the crate, for a reader to find: what is written is a message, reads back, and how long it gets.
-use mathlib.Core.Path.{_≡_, refl, ap}
+use mathlib.Core.Path.{_≡_, refl}
 use mathlib.Core.List.{List, [], _∷_}
 use mathlib.Core.Bool.{true}
 use Prim.Native.Nat.{ℕ, _≤_}
@@ -11,7 +11,7 @@ use Rattle.grammar.specs.Name.{Name}
 use Rattle.grammar.specs.Tree.{Tree}
 use Rattle.grammar.specs.Message.{Message as IsMessage}
 use Rattle.table.specs.Table.{Row, Entry, table, isKindIn, isKind, rowsOf}
-use Rattle.table.specs.Says.{present, anInt, aText, Said, saidIn, saidOf}
+use Rattle.table.specs.Says.{present, anInt, aText, saidIn, saidOf}
 use Rattle.message.specs.Fields.{Field}
 use Rattle.message.specs.Messages.{messageFrom, fieldsOf}
 use Rattle.message.specs.declared.cells.Message.{Message}

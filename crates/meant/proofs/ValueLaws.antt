@@ -13,7 +13,7 @@ use Rattle.model.specs.Tests.{and-left, and-right, in-range}
 use Rattle.number.specs.Positive.{BEHIND}
 use Rattle.number.specs.Guid.{guidOf}
 use Rattle.number.specs.Version.{versionOf}
-use Rattle.printing.specs.Digits.{printInt}
+use Rattle.number.specs.Digits.{printInt}
 use Rattle.spelling.specs.Written.{escape, matter, printDecimal}
 use Rattle.spelling.specs.Characters.{IsText}
 use Rattle.spelling.specs.Decided.{isText}

@@ -12,10 +12,10 @@ use Rattle.number.specs.Bytes.{digit, all, and, before, behind, pointed}
 use Rattle.number.specs.Guid.{guidOf}
 use Rattle.number.specs.Version.{oneToThree, versionOf}
 use Rattle.number.proofs.Tests.{cases, and-left, and-right}
-use Rattle.printing.specs.Digits.{lastDigit, digitsOf, printInt}
+use Rattle.number.specs.Digits.{lastDigit, digitsOf, printInt}
 use Rattle.spelling.specs.Written.{escape, printDecimal}
 use Rattle.spelling.specs.Quoted.{AsIs}
-use Rattle.printing.proofs.PrintLaws.{int-short}
+use Rattle.number.proofs.DigitLaws.{int-short}
 use Rattle.spelling.proofs.Theorems.{int-as-is, decimal-as-is, guid-as-is, version-as-is, decimal-long}
 use Rattle.value.proofs.IdLaws.{id-long}
 use Rattle.table.specs.Table.{Form, words, someWords, whole, guid, version, positive, features}

@@ -10,19 +10,17 @@ use Rattle.model.specs.Characters.{second3, third3, second4, plainByte, charP}
 use Rattle.number.specs.Bytes.{digit, hex, all, dropBack, keepBefore, before, behind, pointed}
 use Rattle.number.specs.Guid.{may, filled, guidOf}
 use Rattle.number.specs.Version.{oneToThree, versionOf}
-use Rattle.printing.specs.Digits.{digitsOf, printInt, places}
+use Rattle.number.specs.Digits.{digitsOf, printInt, places}
 use Rattle.spelling.specs.Written.{escapeByte, escape, behindPoint, printDecimal}
 use Rattle.spelling.specs.Decided.{textFrom, isText}
-use Rattle.value.specs.declared.text.Words.{Words}
 use Rattle.value.specs.declared.text.Words.the-variants.{Absent as NoWords, Present as IsWords}
 use Rattle.table.specs.Table.{words, someWords, whole, guid, version, positive, features, Entry, entry, _is_, _opt_, ifThere, table}
-use Rattle.table.specs.Says.{aText, anInt, millionths, anId, noted, Result, absent, present, refused}
+use Rattle.table.specs.Says.{aText, anInt, millionths, anId, noted, absent, present, refused}
 use Rattle.message.specs.Fields.{Field, aWords, aWhole, aMeasure, aGuid, aFeatures}
 use Rattle.message.specs.Cells.{cellsOf, fieldsFrom, fieldBy, wordsBy, wholeBy, measureBy, guidBy, featuresBy}
 use Rattle.message.specs.Messages.{messageFrom, fieldsOf, withZeros}
 use Rattle.message.specs.declared.values.Whole.the-variants.{Absent as NoWhole, Present as IsWhole}
 use Rattle.message.specs.declared.values.Measure.the-variants.{Absent as NoMeasure, Present as IsMeasure}
-use Rattle.message.specs.declared.cells.Message.{Message}
 use Rattle.meant.specs.Meant.{sendable, textMeant, wholeMeant, measureMeant, idMeant, featuresMeant, meantBy, meantOf, meantIn, refusedIn, refusalOf}
 use Rattle.meant.specs.Written.{attributeOf, attributesOf, childOf, childrenOf, writtenIn, writtenOf}
 use Rattle.meant.specs.Notices.{description, notice}

@@ -1,10 +1,9 @@
 -- What a message to be sent means, field by field, and why it may be refused.
-use mathlib.Core.Path.{_≡_}
 use mathlib.Core.List.{List, [], _∷_}
 use mathlib.Core.Bool.{Bool, true, false, _&&_, _||_, cond}
 use Prim.Native.Nat.{ℕ, _+_, max}
 use lib.ListN.{length, take, drop}
-use lib.Dec.{eqb, leb}
+use lib.Dec.{leb}
 use Rattle.grammar.specs.Bytes.{Bytes, nonEmpty, within, same}
 use Rattle.number.specs.Positive.{BEHIND}
 use Rattle.number.specs.Guid.{guidOf}
@@ -12,15 +11,12 @@ use Rattle.number.specs.Version.{versionOf}
 use Rattle.spelling.specs.Written.{matter}
 use Rattle.spelling.specs.Decided.{isText}
 use Rattle.value.specs.declared.text.Span.{Span}
-use Rattle.value.specs.declared.text.Words.{Words}
 use Rattle.value.specs.declared.text.Words.the-variants.{Absent as NoWords, Present as IsWords}
 use Rattle.table.specs.Table.{Row, Form, words, someWords, whole, guid, version, positive, features, Entry, table, rowsIn, settled}
-use Rattle.table.specs.Says.{Value, aText, anInt, millionths, anId, noted, Result, absent, present, refused, TOO_LONG, BAD, limited, when, without, byNeed, refusalIn, first}
+use Rattle.table.specs.Says.{aText, anInt, millionths, anId, noted, Result, present, refused, TOO_LONG, BAD, when, without, byNeed, refusalIn, first}
 use Rattle.message.specs.Fields.{Field, none, aWords, aWhole, aMeasure, aGuid, aFeatures}
 use Rattle.message.specs.Messages.{fieldsOf}
-use Rattle.message.specs.declared.values.Whole.{Whole}
 use Rattle.message.specs.declared.values.Whole.the-variants.{Absent as NoWhole, Present as IsWhole}
-use Rattle.message.specs.declared.values.Measure.{Measure}
 use Rattle.message.specs.declared.values.Measure.the-variants.{Absent as NoMeasure, Present as IsMeasure}
 use Rattle.message.specs.declared.values.Features.{Features}
 use Rattle.message.specs.declared.cells.Message.{Message}

@@ -1,9 +1,9 @@
 -- The bytes that are written for a message.
 use mathlib.Core.List.{List, [], _∷_, _++_}
-use mathlib.Core.Bool.{Bool, true, false, cond}
+use mathlib.Core.Bool.{cond}
 use Prim.Native.Nat.{ℕ}
 use Rattle.grammar.specs.Bytes.{Bytes, text, nonEmpty}
-use Rattle.printing.specs.Digits.{printInt}
+use Rattle.number.specs.Digits.{printInt}
 use Rattle.spelling.specs.Written.{escape, printDecimal}
 use Rattle.value.specs.declared.text.Words.the-variants.{Absent as NoWords, Present as IsWords}
 use Rattle.table.specs.Table.{Need, required, optional, requiredWith, ignored, Row, Entry, table, rowsIn, nameIn}

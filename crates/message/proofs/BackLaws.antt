@@ -1,9 +1,9 @@
 -- Fields laid into cells and taken from them again are the same. What is not there loses its bytes and its bits.
-use mathlib.Core.Path.{_≡_, refl, sym, ap, subst, _∙_}
+use mathlib.Core.Path.{_≡_, refl, sym, ap, _∙_}
 use mathlib.Core.List.{List, [], _∷_, _++_, append-assoc}
-use mathlib.Core.Bool.{Bool, true, false, _&&_, not, cond}
-use Prim.Native.Nat.{ℕ, zero, suc, _+_, _*_, _≤_}
-use native.Mathlib.Nat.{zero-add, suc-add, add-zero}
+use mathlib.Core.Bool.{Bool, true, false, not, cond}
+use Prim.Native.Nat.{ℕ, _+_, _*_, _≤_}
+use native.Mathlib.Nat.{zero-add, suc-add}
 use native.Mathlib.Omega.{arith}
 use lib.ListN.{length, getD, drop, replicate, length-append}
 use lib.Dec.{eqb}
@@ -11,18 +11,16 @@ use Rattle.exact.specs.Chain.{clash}
 use Rattle.grammar.specs.Bytes.{Bytes}
 use Rattle.grammar.specs.Tree.{Tree}
 use Rattle.value.specs.Ids.{noId}
-use Rattle.value.specs.declared.id.Guid.{Guid}
 use Rattle.value.specs.declared.text.Words.{Words}
 use Rattle.value.specs.declared.text.Words.the-variants.{Absent as NoWords, Present as IsWords}
 use Rattle.table.specs.Table.{Row, Form, words, someWords, whole, guid, version, positive, features, rowsOf, isGuid}
 use Rattle.table.specs.Says.{Result, absent, present, refused, aText, anInt, millionths, anId, noted, tried}
-use Rattle.message.specs.Fields.{Field, none, aWords, aWhole, aMeasure, aGuid, aFeatures, noFeatures, bare, bares, idIn, featuresIn, placedBy, fieldFor, fieldOf, fieldsIn}
-use Rattle.message.specs.Cells.{NUMBERS, isThere, bit, wordsBy, wholeBy, measureBy, guidBy, featuresBy, fieldBy, cellAt, fieldsFrom, flag, wordsCell, wholeCell, measureCell, guidCell, featuresCell, cellOf, cellsOf}
+use Rattle.message.specs.Fields.{Field, none, aWords, aWhole, aMeasure, aGuid, aFeatures, noFeatures, bare, bares, idIn, featuresIn, placedBy, fieldFor, fieldsIn}
+use Rattle.message.specs.Cells.{NUMBERS, isThere, wordsBy, wholeBy, measureBy, guidBy, featuresBy, fieldBy, cellAt, fieldsFrom, flag, wordsCell, cellOf, cellsOf}
 use Rattle.message.specs.Messages.{withZeros, bytesIn, idAmong, messageFrom, fieldsOf, idOf}
 use Rattle.message.specs.Checked.{messageOf}
 use Rattle.message.specs.declared.values.Whole.the-variants.{Absent as NoWhole, Present as IsWhole}
 use Rattle.message.specs.declared.values.Measure.the-variants.{Absent as NoMeasure, Present as IsMeasure}
-use Rattle.message.specs.declared.values.Features.{Features}
 use Rattle.message.specs.declared.cells.Message.{Message}
 use Rattle.message.proofs.MessageLaws.{message-table}
 use Rattle.message.proofs.GuidLaws.{both, noGuid, oneGuid, one-guid}

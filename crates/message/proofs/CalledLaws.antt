@@ -1,5 +1,5 @@
 -- A text of a message by its name: where it stands, and that it keeps its limit.
-use mathlib.Core.Path.{_≡_, refl, sym, ap, subst, _∙_}
+use mathlib.Core.Path.{_≡_, refl, sym, ap, _∙_}
 use mathlib.Core.List.{List, [], _∷_}
 use mathlib.Core.Bool.{Bool, true, false, _&&_, _||_, not, cond}
 use Prim.Native.Nat.{ℕ, zero, suc, _+_, _*_, _≤_}
@@ -14,10 +14,10 @@ use Rattle.model.specs.Tests.{same-true}
 use Rattle.value.specs.declared.text.Span.{Span}
 use Rattle.value.specs.declared.text.Words.{Words}
 use Rattle.value.specs.declared.text.Words.the-variants.{Absent as NoWords, Present as IsWords}
-use Rattle.table.specs.Table.{Row, Form, words, someWords, whole, guid, version, positive, features, Need, required, optional, requiredWith, ignored, table, rowsOf}
+use Rattle.table.specs.Table.{Row, Form, words, someWords, whole, guid, version, positive, features, Need, required, optional, requiredWith, ignored, rowsOf}
 use Rattle.table.specs.Says.{Result, judged, given, sought, byNeed, tried, refusalIn, first, refusalOf}
-use Rattle.table.specs.Theorems.{plainNeed, plainRows, plain-table, plain-flag, by-flag, each-rows}
-use Rattle.message.specs.Fields.{Field, theWords, placedBy, fieldFor, fieldOf, fieldsIn}
+use Rattle.table.specs.Theorems.{plainNeed, plainRows, plain-table, plain-flag, by-flag}
+use Rattle.message.specs.Fields.{theWords, placedBy, fieldFor, fieldOf, fieldsIn}
 use Rattle.message.specs.Cells.{NUMBERS, wordsBy, fieldBy, cellAt, fieldsFrom}
 use Rattle.message.specs.Messages.{blank, fieldsOf, calledIn}
 use Rattle.message.specs.Handed.{Has, has-here, has-later, attributesOf}

@@ -2,7 +2,7 @@
 -- cell is 0 if the value is absent. Then follow: of a text its place and its length; of an int its value; of a positive number its millionths and
 -- the digits behind its point; of the features their bits 1, 2 and 4.
 use mathlib.Core.List.{List, [], _∷_, _++_}
-use mathlib.Core.Bool.{Bool, true, false, _&&_, not, cond}
+use mathlib.Core.Bool.{Bool, true, _&&_, not, cond}
 use Prim.Native.Nat.{ℕ, _+_, _*_, _/_, _%_}
 use lib.ListN.{getD}
 use lib.Dec.{eqb}

@@ -11,16 +11,17 @@ use Rattle.grammar.specs.Attribute.{Attribute}
 use Rattle.grammar.specs.Tree.{Tree}
 use Rattle.grammar.specs.Message.{Layout, Laid, readLayout}
 use Rattle.grammar.specs.Answer.{Answers, endsAt, moreFrom, malformedAt, tooLongFrom}
-use Rattle.tags.specs.Places.{valueAt, valueEnd}
-use Rattle.reader.specs.Outline.{childOf as inner, tagIn, lead}
+use Rattle.grammar.specs.Places.{valueAt, valueEnd, childOf as inner, tagIn, lead}
 use Rattle.value.specs.declared.text.Words.{Words}
 use Rattle.value.specs.declared.text.Words.the-variants.{Absent, Present}
 use Rattle.table.specs.Table.{Entry, table}
-use Rattle.table.specs.Says.{childOf, rowsFor, Said, saidIn}
+use Rattle.table.specs.Says.{childOf, rowsFor, saidIn}
 use Rattle.message.specs.Fields.{fieldsIn}
-use Rattle.message.specs.Messages.{messageFrom, blank}
+use Rattle.message.specs.Cells.{NUMBERS}
+use Rattle.message.specs.Messages.{messageFrom, blank, messageBy}
 use Rattle.message.specs.declared.cells.Message.{Message}
 use Rattle.message.specs.declared.checking.Checked.{Checked}
+use Rattle.message.specs.declared.checking.Found.{Found}
 
 -- where the raw value of the attribute n stands, of attributes that stand from `at` on
 unfoldable pub placeOf : ℕ → List Attribute → Bytes → Words
@@ -62,3 +63,12 @@ pub data ChecksBy (by : List Entry) (s : Bytes) (r : Checked) : Type 0 where
 
 abbrev pub Checks : Bytes → Checked → Type 0
 Checks s r = ChecksBy table s r
+
+-- what is found without its message, with the message that the cells and the id are
+abbrev pub handedBy : Found → List ℕ → Checked
+handedBy r cells = record { refusal = r .refusal; start = r .start; end = r .end; place = r .place; message = messageBy (r .kind) cells (r .id) }
+
+-- it is what checking hands out
+pub record ChecksInto (s : Bytes) (cells : List ℕ) (r : Found) : Type 0 where
+  pub checks : Checks s (handedBy r cells)
+  pub long : length cells ≡ NUMBERS

@@ -1,28 +1,26 @@
 -- Worked examples: what each attribute hands out, and what the answers are. They hold by computation.
 use mathlib.Core.Path.{_≡_, refl}
-use mathlib.Core.List.{List, [], _∷_, _++_}
+use mathlib.Core.List.{List, [], _∷_}
 use mathlib.Core.Bool.{true, false}
-use Prim.Native.Nat.{ℕ, zero, suc}
 use Prim.Native.String.{String}
 use lib.ListN.{length, replicate}
-use Rattle.number.specs.Bytes.{blank, digit, hex, nonEmpty, all, dropFront, keepBefore, dropBack, trim, valueFrom, before, behind, pointed}
+use Rattle.number.specs.Bytes.{blank, digit, hex, nonEmpty, all, dropFront, keepBefore, dropBack, trim, valueFrom, before, behind}
 use Rattle.number.specs.Whole.{sized, signed, intOf}
 use Rattle.number.specs.Positive.{written, short, above, millionths as decimals, decimal, unsigned, parted, numberOf, decimalsOf}
 use Rattle.number.specs.Guid.{may, filled, guidOf}
-use Rattle.number.specs.Version.{oneToThree, versionOf}
 use Rattle.grammar.specs.Bytes.{Bytes, text, within}
 use Rattle.grammar.specs.Tree.{Pair, Tree, tree, Forest, no-trees, tree-then}
-use Rattle.table.specs.Table.{words, someWords, whole, guid, version, positive, _is_, ifThere, table, settled}
+use Rattle.table.specs.Table.{words, _is_, ifThere, table, settled}
 use Rattle.value.specs.declared.id.Guid.{Guid}
 use Rattle.value.specs.declared.text.Words.{Words}
 use Rattle.value.specs.declared.text.Words.the-variants.{Absent, Present}
-use Rattle.message.specs.Fields.{aWords, aWhole, aMeasure, aGuid, aFeatures, fieldsIn, fieldFor}
-use Rattle.message.specs.Cells.{NUMBERS, cellsOf}
+use Rattle.message.specs.Fields.{Field, aWords, aWhole, aMeasure, aGuid, aFeatures, fieldsIn, fieldFor}
+use Rattle.message.specs.Cells.{cellsOf}
 use Rattle.message.specs.Messages.{withZeros, messageFrom, blank as nothing}
 use Rattle.message.specs.Checked.{unread, messageOf, judgedTo}
 use Rattle.message.specs.declared.values.Whole.the-variants.{Present as IsWhole}
 use Rattle.message.specs.declared.values.Measure.the-variants.{Present as IsMeasure}
-use Rattle.table.specs.Says.{Result, absent, present, refused, aText, anInt, millionths, anId, noted, judged, tried, refusalOf, valuesOf, Said, saidOf}
+use Rattle.table.specs.Says.{judged, tried}
 
 infix 70 _:=_
 abbrev _:=_ : String → String → Pair
@@ -66,13 +64,10 @@ at n = spot (text n)
 abbrev someId : Guid
 someId = record { there = true; bytes = text "01234567-89ab-cdef-0123-456789abcdef" }
 
--- each attribute is handed out in its own field
-pub board-fields :
-    messageOf 3 spot
-    (tree (text "BoardAvailable")
-    ("BoardId" := "01234567-89ab-cdef-0123-456789abcdef"
-    ∷ "BoardIdCreatedBy" := "c"
-    ∷ "FailedBoard" := "1"
+-- the attributes of a board from FailedBoard to WorkOrderId, with others behind them, and their fields
+abbrev boardWith : List Pair → List Pair
+boardWith rest =
+    "FailedBoard" := "1"
     ∷ "ProductTypeId" := "p"
     ∷ "FlippedBoard" := "2"
     ∷ "TopBarcode" := "t"
@@ -85,14 +80,11 @@ pub board-fields :
     ∷ "BottomClearanceHeight" := "6"
     ∷ "Weight" := "7"
     ∷ "WorkOrderId" := "w"
-    ∷ "Route" := "900"
-    ∷ "BatchId" := "l"
-    ∷ [])
-    no-trees)
-    ≡ messageFrom 3
-    (aGuid someId
-    ∷ aWords (at "BoardIdCreatedBy")
-    ∷ aWhole (IsWhole 1)
+    ∷ rest
+
+abbrev fieldsWith : List Field → List Field
+fieldsWith rest =
+    aWhole (IsWhole 1)
     ∷ aWords (at "ProductTypeId")
     ∷ aWhole (IsWhole 2)
     ∷ aWords (at "TopBarcode")
@@ -105,9 +97,20 @@ pub board-fields :
     ∷ aMeasure (IsMeasure 6000000 0)
     ∷ aMeasure (IsMeasure 7000000 0)
     ∷ aWords (at "WorkOrderId")
-    ∷ aWhole (IsWhole 900)
-    ∷ aWords (at "BatchId")
-    ∷ [])
+    ∷ rest
+
+-- each attribute is handed out in its own field
+pub board-fields :
+    messageOf 3 spot
+    (tree (text "BoardAvailable")
+    ("BoardId" := "01234567-89ab-cdef-0123-456789abcdef"
+    ∷ "BoardIdCreatedBy" := "c"
+    ∷ boardWith ("Route" := "900" ∷ "BatchId" := "l" ∷ []))
+    no-trees)
+    ≡ messageFrom 3
+    (aGuid someId
+    ∷ aWords (at "BoardIdCreatedBy")
+    ∷ fieldsWith (aWhole (IsWhole 900) ∷ aWords (at "BatchId") ∷ []))
 unfolding table messageFrom withZeros cellsOf fieldsIn fieldFor tried judged guidOf filled may hex intOf signed sized numberOf decimalsOf parted unsigned decimal written short above decimals before behind trim dropFront dropBack keepBefore blank digit all nonEmpty valueFrom within
 board-fields = refl
 
@@ -118,40 +121,14 @@ pub forecast-fields :
     ∷ "TimeUntilAvailable" := "9"
     ∷ "BoardId" := "01234567-89ab-cdef-0123-456789abcdef"
     ∷ "BoardIdCreatedBy" := ""
-    ∷ "FailedBoard" := "1"
-    ∷ "ProductTypeId" := "p"
-    ∷ "FlippedBoard" := "2"
-    ∷ "TopBarcode" := "t"
-    ∷ "BottomBarcode" := "b"
-    ∷ "Length" := "1"
-    ∷ "Width" := "2"
-    ∷ "Thickness" := ".5"
-    ∷ "ConveyorSpeed" := "4"
-    ∷ "TopClearanceHeight" := "5"
-    ∷ "BottomClearanceHeight" := "6"
-    ∷ "Weight" := "7"
-    ∷ "WorkOrderId" := "w"
-    ∷ [])
+    ∷ boardWith [])
     no-trees)
     ≡ messageFrom 11
     (aWords (at "ForecastId")
     ∷ aMeasure (IsMeasure 9000000 0)
     ∷ aGuid someId
     ∷ aWords (at "BoardIdCreatedBy")
-    ∷ aWhole (IsWhole 1)
-    ∷ aWords (at "ProductTypeId")
-    ∷ aWhole (IsWhole 2)
-    ∷ aWords (at "TopBarcode")
-    ∷ aWords (at "BottomBarcode")
-    ∷ aMeasure (IsMeasure 1000000 0)
-    ∷ aMeasure (IsMeasure 2000000 0)
-    ∷ aMeasure (IsMeasure 500000 1)
-    ∷ aMeasure (IsMeasure 4000000 0)
-    ∷ aMeasure (IsMeasure 5000000 0)
-    ∷ aMeasure (IsMeasure 6000000 0)
-    ∷ aMeasure (IsMeasure 7000000 0)
-    ∷ aWords (at "WorkOrderId")
-    ∷ [])
+    ∷ fieldsWith [])
 unfolding table messageFrom withZeros cellsOf fieldsIn fieldFor tried judged guidOf filled may hex intOf signed sized numberOf decimalsOf parted unsigned decimal written short above decimals before behind trim dropFront dropBack keepBefore blank digit all nonEmpty valueFrom within
 forecast-fields = refl
 

@@ -1,7 +1,6 @@
 -- What is handed out of a message: a field for each row of its kind.
 use mathlib.Core.List.{List, [], _∷_}
-use mathlib.Core.Bool.{Bool, true, false, cond}
-use Prim.Native.Nat.{ℕ}
+use mathlib.Core.Bool.{true, false, cond}
 use Rattle.grammar.specs.Bytes.{Bytes}
 use Rattle.grammar.specs.Tree.{Tree}
 use Rattle.value.specs.Ids.{noId}
@@ -9,7 +8,7 @@ use Rattle.value.specs.declared.id.Guid.{Guid}
 use Rattle.value.specs.declared.text.Words.{Words}
 use Rattle.value.specs.declared.text.Words.the-variants.{Absent as NoWords}
 use Rattle.table.specs.Table.{Row, Form, words, someWords, whole, guid, version, positive, features, Need, required, optional, requiredWith, ignored}
-use Rattle.table.specs.Says.{Value, aText, anInt, millionths, anId, noted, Result, absent, present, refused, tried}
+use Rattle.table.specs.Says.{aText, anInt, millionths, anId, noted, Result, absent, present, refused, tried}
 use Rattle.message.specs.declared.values.Whole.{Whole}
 use Rattle.message.specs.declared.values.Whole.the-variants.{Absent as NoWhole, Present as IsWhole}
 use Rattle.message.specs.declared.values.Measure.{Measure}

@@ -2,7 +2,7 @@
 use mathlib.Core.Path.{_≡_}
 use mathlib.Core.List.{List, [], _∷_}
 use mathlib.Core.Bool.{true, false}
-use Prim.Native.Nat.{ℕ, _+_, _-_, _≤_}
+use Prim.Native.Nat.{_+_, _-_, _≤_}
 use lib.ListN.{length, take, drop}
 use Rattle.grammar.specs.Bytes.{Bytes, same}
 use Rattle.grammar.specs.Tree.{Pair, Tree, tree}
@@ -12,7 +12,7 @@ use Rattle.value.specs.declared.text.Span.{Span}
 use Rattle.value.specs.declared.text.Words.{Words}
 use Rattle.value.specs.declared.text.Words.the-variants.{Absent, Present}
 use Rattle.table.specs.Table.{Entry, table}
-use Rattle.table.specs.Says.{childOf, Said, saidIn}
+use Rattle.table.specs.Says.{childOf, saidIn}
 use Rattle.message.specs.Checked.{messageIn}
 use Rattle.message.specs.declared.checking.Checked.{Checked}
 

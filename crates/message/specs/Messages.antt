@@ -3,7 +3,7 @@ use mathlib.Core.List.{List, [], _∷_, _++_}
 use mathlib.Core.Bool.{cond}
 use Prim.Native.Nat.{ℕ}
 use Prim.Native.String.{String}
-use lib.ListN.{getD, length, drop, replicate}
+use lib.ListN.{length, drop, replicate}
 use lib.Dec.{leb}
 use Rattle.grammar.specs.Bytes.{Bytes, text, same}
 use Rattle.value.specs.Ids.{noId}

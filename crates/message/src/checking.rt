@@ -12,3 +12,13 @@ pub struct Checked {
     pub place: usize,
     pub message: Message,
 }
+
+/// What stands behind the glue in front of an input, as Checked says; what a message says stands in cells, but for its BoardId.
+pub struct Found {
+    pub refusal: u8,
+    pub kind: u8,
+    pub start: usize,
+    pub end: usize,
+    pub place: usize,
+    pub id: [u8; 36],
+}

@@ -5,3 +5,4 @@ pub mod values;
 
 pub use cells::Message;
 pub use checking::Checked;
+pub use checking::Found;

@@ -1,8 +1,8 @@
 -- The reader of comments, and that it is exact.
-use mathlib.Core.Path.{_≡_, refl, sym, ap, subst, _∙_}
+use mathlib.Core.Path.{_≡_, refl, ap, _∙_}
 use mathlib.Core.List.{List, [], _∷_, _++_, append-assoc}
 use mathlib.Core.Bool.{Bool, true, false}
-use Prim.Native.Nat.{ℕ, _≤_, _<_}
+use Prim.Native.Nat.{ℕ, _<_}
 use Prim.Native.Char.{code}
 use native.Mathlib.Omega.{arith}
 use lib.ListN.{length}
@@ -14,7 +14,7 @@ use Rattle.exact.specs.Byte.{On, on, onP, on-exact, Lit, lit, litP, lit-exact, 
 use Rattle.exact.specs.Loop.{Turn, again, stop, Loop, last, next, onward, loopP, loop-eq, loop-exact}
 use Rattle.grammar.specs.Bytes.{Bytes, text, within}
 use Rattle.grammar.specs.Character.{isChar, utf8}
-use Rattle.grammar.specs.Comment.{Mark, mark, dashMark, spellMark, spellMarks, GoodMark, good-mark, good-dash, GoodMarks, marks-end, marks-then}
+use Rattle.grammar.specs.Comment.{Mark, mark, dashMark, spellMarks, good-mark, good-dash, GoodMarks, marks-end, marks-then}
 use Rattle.model.specs.Characters.{IsRaw, plainByte, charP, char-exact, raw-starts}
 
 -- `-`

@@ -8,7 +8,7 @@ use Prim.Native.Char.{code}
 use native.Mathlib.Omega.{arith}
 use lib.ListN.{length}
 use lib.Dec.{eqb, leb}
-use borrow.Author.Tests.{ne-eqb, not-true}
+use borrow.Author.Tests.{not-true}
 use Rattle.exact.specs.Exact.{Lang, Reader, Exact, exact-like}
 use Rattle.exact.specs.Chain.{Ret, ret, retP, ret-exact, Seq, seq, bindP, Map, mapped, mapP, map-exact}
 use Rattle.exact.specs.Byte.{On, on, onP, on-exact, eqb-true, other, Alt, left, right, Starts, starts, on-starts, map-starts, choiceP, choice-exact}
@@ -17,8 +17,8 @@ use Rattle.exact.specs.Loop.{Turn, again, stop, Loop, last, next, onward, loopP
 use Rattle.grammar.specs.Bytes.{Bytes, within}
 use Rattle.grammar.specs.Glue.{isGlue}
 use Rattle.grammar.specs.Character.{isChar, utf8}
-use Rattle.grammar.specs.Value.{Item, raw, ref, spellItem, banned, GoodItem, good-raw, good-ref}
-use Rattle.grammar.specs.Comment.{Mark, spellComment, GoodMarks}
+use Rattle.grammar.specs.Value.{Item, raw, spellItem, banned, GoodItem, good-raw, good-ref}
+use Rattle.grammar.specs.Comment.{Mark, spellComment}
 use Rattle.grammar.specs.Filler.{Site, inRoot, belowRoot, Bit, inText, comment, Filler, spellBit, spellFiller, brackets, stopper, GoodBit, good-glue, good-text, good-comment, GoodBits, bits-end, bits-then, GoodFiller}
 use Rattle.model.specs.Characters.{plainByte, utf8-1, raw-starts}
 use Rattle.model.specs.Values.{itemP, IsItem, Stops, ban-ascii, amp-first, item-exact}

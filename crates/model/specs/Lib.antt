@@ -16,6 +16,7 @@ pub mod Answers
 pub mod Cuts
 pub mod Completions
 pub mod MadeOfBytes
+pub mod Standing
 pub mod Theorems
 pub mod Bench
 pub mod Remarks

@@ -4,25 +4,24 @@ use mathlib.Core.List.{List, [], _∷_, _++_}
 use mathlib.Core.Logic.{_⊎_, inl, inr}
 use mathlib.Core.Bool.{Bool, true, false, _&&_, _||_, cond}
 use Prim.Native.Nat.{ℕ, _+_, _/_, _%_, _≤_, _<_}
-use Prim.Native.Char.{code}
 use native.Mathlib.Omega.{arith}
 use lib.Dec.{eqb, leb}
-use borrow.Author.Tests.{leb-true, leb-false, le-leb}
+use borrow.Author.Tests.{leb-true, le-leb}
 use Rattle.exact.specs.Byte.{eqb-true}
 use Rattle.exact.specs.Chain.{clash}
 use Rattle.grammar.specs.Bytes.{Bytes, text, within, digit, every, ByteString, same, fits, either}
 use Rattle.grammar.specs.Glue.{isGlue, Glue}
 use Rattle.grammar.specs.Name.{letter, nameStart, nameByte, shaped, Name}
 use Rattle.grammar.specs.Character.{isChar, utf8}
-use Rattle.grammar.specs.Reference.{Named, amp, lt, gt, quot, apos, Reference, named, decimal, hexadecimal, spellNamed, spellReference, hexDigit, Digits, GoodReference, good-named, good-decimal, good-hexadecimal}
-use Rattle.grammar.specs.Value.{Item, raw, ref, spellItem, spellValue, isQuote, GoodItem, good-raw, good-ref, GoodValue, good-last, good-item}
+use Rattle.grammar.specs.Reference.{Named, amp, lt, gt, quot, apos, Reference, named, spellReference, hexDigit, GoodReference, good-named, good-decimal, good-hexadecimal}
+use Rattle.grammar.specs.Value.{Item, spellItem, spellValue, isQuote, GoodItem, good-raw, good-ref, GoodValue, good-last, good-item}
 use Rattle.grammar.specs.Attribute.{Attribute, spellAttribute, spellAttributes, GoodAttribute, GoodEach, good-none, good-each}
-use Rattle.grammar.specs.Comment.{Mark, spellMarks, GoodMark, good-mark, good-dash, GoodMarks, marks-end, marks-then}
+use Rattle.grammar.specs.Comment.{Mark, spellMarks, good-mark, good-dash, GoodMarks, marks-end, marks-then}
 use Rattle.grammar.specs.Filler.{Site, Bit, Filler, spellBit, spellFiller, GoodBit, good-glue, good-text, good-comment, GoodBits, bits-end, bits-then}
 use Rattle.grammar.specs.Tree.{Tree}
 use Rattle.grammar.specs.Element.{Tag, Element, Content, spellTag, spellEnd, spellElement, spellContent, GoodTag, GoodElement, good-empty, good-full, GoodContent, good-bare, good-child}
-use Rattle.grammar.specs.Declaration.{Setting, Optional, absent, present, Declaration, spellSetting, spellOptional, spellDeclaration, isVersion, isEncoding, isStandalone, GoodSetting, GoodOptional, good-absent, good-present, GoodDeclaration}
-use Rattle.grammar.specs.Message.{Root, Layout, plain, declared, hermes, spellRoot, spellLayout, GoodRoot, GoodLayout, good-plain, good-declared, Message}
+use Rattle.grammar.specs.Declaration.{Setting, Optional, Declaration, spellSetting, spellOptional, spellDeclaration, isVersion, isEncoding, isStandalone, GoodSetting, GoodOptional, good-absent, good-present, GoodDeclaration}
+use Rattle.grammar.specs.Message.{Root, Layout, hermes, spellRoot, spellLayout, GoodRoot, GoodLayout, good-plain, good-declared, Message}
 use Rattle.model.specs.Characters.{char-max, utf8-1}
 use Rattle.model.specs.Tests.{and-left, and-right, and-both, or-cases, in-range, same-true, every-append}
 use Rattle.model.specs.Values.{quote-is}

@@ -1,6 +1,5 @@
 -- Of messages other than StartTransport, StopTransport and TransportFinished the chart does not ask which id they carry.
 use mathlib.Core.Path.{_≡_, refl}
-use mathlib.Core.Logic.{_⊎_, ⊎-elim}
 use mathlib.Core.Bool.{Bool}
 use Prim.Native.Nat.{ℕ, _<_}
 use native.Mathlib.Omega.{arith}

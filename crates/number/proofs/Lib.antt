@@ -1,3 +1,5 @@
 pub mod Tests
 pub mod Powers
 pub mod Classes
+pub mod DigitLaws
+pub mod Theorems

@@ -5,10 +5,11 @@ use mathlib.Core.List.{List, [], _∷_}
 use Prim.Native.Nat.{ℕ, zero, suc, _+_}
 use Prim.Native.String.{String}
 use Rattle.number.specs.Bytes.{Bytes, text, and, or, blank, digit, hex, nonEmpty, all, trim, dropFront, dropBack, keepBefore, valueFrom, before, behind, pointed}
-use Rattle.number.specs.Whole.{Whole, noInt, int, sized, signed, intOf, capped, paper, wholeRead}
-use Rattle.number.specs.Positive.{Number, noNumber, number, written, short, millionths, above, decimal, unsigned, parted, numberOf, decimalsOf, numberRead}
+use Rattle.number.specs.Whole.{noInt, int, sized, signed, intOf, capped, paper, wholeRead}
+use Rattle.number.specs.Positive.{noNumber, number, written, short, millionths, above, decimal, unsigned, parted, numberOf, decimalsOf, numberRead}
 use Rattle.number.specs.Guid.{may, filled, guidOf}
 use Rattle.number.specs.Version.{oneToThree, versionOf}
+use Rattle.number.specs.Digits.{digitsOf, printInt}
 use Rattle.number.specs.Bench.{Case, whole, positive}
 use Rattle.number.specs.declared.whole.WholeRead.{WholeRead}
 
@@ -212,3 +213,8 @@ no-versions = "" ∷ "1" ∷ "." ∷ ".1" ∷ "1." ∷ "1234.5" ∷ "1.2345" ∷
 pub versions-hold : (every versionOf versions ≡ true) × (any versionOf no-versions ≡ false)
 unfolding versionOf oneToThree before behind pointed all digit
 versions-hold = (refl, refl)
+
+-- digits
+printed : (printInt 0 ≡ text "0") × (printInt 7 ≡ text "7") × (printInt 10 ≡ text "10") × (printInt 65535 ≡ text "65535")
+unfolding printInt digitsOf
+printed = (refl, refl, refl, refl)

@@ -1,6 +1,6 @@
 -- Runs of digits taken at once: what one digit more, and a point, make of the state.
 use mathlib.Core.Path.{_≡_, refl, ap, _∙_}
-use mathlib.Core.Bool.{true, false}
+use mathlib.Core.Bool.{true}
 use mathlib.Core.List.{[], _∷_, _++_}
 use Prim.Native.Nat.{ℕ, _+_, _-_, _*_, _≤_, _<_, min}
 use native.Mathlib.Omega.{arith}
@@ -9,13 +9,11 @@ use lib.ListN.{length, take, getD}
 use lib.Seq.{take-suc}
 use borrow.Author.Tests.{lt-ltb, ne-eqb}
 use Rattle.number.specs.Bytes.{Bytes, blank, digit, figure}
-use Rattle.number.specs.Positive.{mark}
-use Rattle.number.proofs.Tests.{digit-low, digit-high, digit-no-blank}
+use Rattle.number.proofs.Tests.{digit-low, digit-no-blank}
 use Rattle.numerals.specs.Scan.{FAR, TENTH, SLICE, run, endsStep, inside, joined, zerosMore, partDigit, partStep, signStep, wholeStep, firstStep, bodyStep, start, step}
 use Rattle.numerals.specs.Ahead.{wholeOf, partOf, Steps, Runs}
 use Rattle.numerals.specs.declared.scan.Scan.{Scan}
-use Rattle.numerals.specs.declared.ahead.Run.{Run}
-use Rattle.numerals.proofs.NumberLaws.{digit-no-mark}
+use Rattle.number.proofs.DigitLaws.{digit-no-mark}
 use Rattle.numerals.proofs.Theorems.{scanned-more}
 
 pub whole-steps : Steps wholeOf

@@ -9,12 +9,13 @@ use native.Mathlib.Omega.{arith}
 use native.Mathlib.Nat.{add-mul, mul-lt-mul-of-pos-right, mul-le-mul-right, mul-assoc}
 use lib.Pow.{pow-add}
 use lib.Dec.{eqb, leb, ltb, leb·suc-suc, leb·suc-zero, leb·zero}
-use lib.ListN.{length, length-append, take, drop, replicate, take-append-drop, length-drop, length-replicate}
+use lib.ListN.{length, length-append, take, drop, take-append-drop, length-drop, length-replicate}
 use borrow.Author.Tests.{eqb-true, lt-ltb, le-ltb, eqb-false, ltb-true, ltb-false, leb-true, leb-false, le-leb}
 use Rattle.number.specs.Bytes.{Bytes, pick, and, digit, zeroDigit, figure, nonEmpty, all, dropFront, dropBack, keepBefore, valueFrom, value}
 use Rattle.number.specs.Positive.{Number, noNumber, number, written, short, millionths, above, decimal, zeros, right, left}
-use Rattle.numerals.specs.Scan.{TOP, limited, exactly}
+use Rattle.numerals.specs.Scan.{limited, exactly}
 use Rattle.number.proofs.Tests.{cases, never, and-left, and-right, and-false}
+use Rattle.number.proofs.DigitLaws.{zeros-digits, all-append, both-digits}
 use Rattle.number.proofs.Powers.{ten-pos, shift, in-front, value-lt, lead-le, zero-front, few}
 use Rattle.numerals.proofs.TenLaws.{Exact, picked, exactly-none, exactly-tens, exactly-suc}
 
@@ -206,24 +207,11 @@ decimal-exact f g a b s =
     ∙ tail-exact 6 (value f) g b
     ∙ ap (λ (y : ℕ). exactly y 6 (length g)) (sym (value-append 0 f g))
 
--- zeros are digits and count nothing
-pub zeros-digits : (e : ℕ) → all digit (zeros e) ≡ true
-unfolding all digit
-zeros-digits zero = refl
-zeros-digits (suc e) = zeros-digits e
-
+-- zeros count nothing
 zeros-value : (e : ℕ) → value (zeros e) ≡ 0
 unfolding valueFrom
 zeros-value zero = refl
 zeros-value (suc e) = zeros-value e
-
-all-append : (class : ℕ → Bool) (x y : Bytes) → all class (x ++ y) ≡ and (all class x) (all class y)
-unfolding all
-all-append class [] y = refl
-all-append class (b ∷ x) y = cases (class b) (λ t. rw t (all-append class x y)) (λ t. rw t)
-
-pub both-digits : (x y : Bytes) → all digit x ≡ true → all digit y ≡ true → all digit (x ++ y) ≡ true
-both-digits x y a b = all-append digit x y ∙ rw (a, b)
 
 -- digits cut anywhere are digits
 cut-all : (k : ℕ) (w : Bytes) → all digit w ≡ true → (all digit (take k w) ≡ true) × (all digit (drop k w) ≡ true)

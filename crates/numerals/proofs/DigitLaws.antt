@@ -4,10 +4,10 @@ use mathlib.Core.Bool.{Bool, true, false}
 use Prim.Native.Nat.{ℕ, zero, suc, _+_, _-_, _*_, _^_, _≤_, _<_, min}
 use native.Mathlib.Omega.{arith}
 use native.Mathlib.Nat.{mul-assoc, le-mul-of-pos-right}
-use lib.Dec.{eqb, ltb}
+use lib.Dec.{ltb}
 use borrow.Author.Tests.{eqb-true, eqb-false, ltb-true, ltb-false, lt-ltb, le-ltb}
-use Rattle.number.specs.Bytes.{pick, and, digit, zeroDigit, figure}
-use Rattle.number.specs.Positive.{Number, noNumber}
+use Rattle.number.specs.Bytes.{pick, digit, zeroDigit, figure}
+use Rattle.number.specs.Positive.{Number}
 use Rattle.numerals.specs.Scan.{TOP, TENTH, FAR, joined, zerosMore, exactly, ended, powerEnd}
 use Rattle.numerals.specs.declared.scan.Digits.{Digits}
 use Rattle.number.proofs.Tests.{cases, digit-low, digit-high}

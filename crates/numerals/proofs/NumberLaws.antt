@@ -3,20 +3,21 @@
 use mathlib.Core.Path.{_≡_, refl, sym, ap, _∙_}
 use mathlib.Core.Bool.{Bool, true, false}
 use mathlib.Core.List.{[], _∷_, _++_}
-use Prim.Native.Nat.{ℕ, zero, suc, _+_, _-_, _*_, _^_, _≤_, _<_, min}
+use Prim.Native.Nat.{ℕ, suc, _+_, _-_, _*_, _^_, _≤_, _<_, min}
 use Prim.Native.Char.{code}
 use native.Mathlib.Omega.{arith}
 use mathlib.Core.Logic.{_↔_}
-use lib.Dec.{eqb, leb, ltb}
+use lib.Dec.{eqb, ltb}
 use lib.ListN.{length}
-use borrow.Author.Tests.{eqb-true, eqb-false, ne-eqb}
-use Rattle.number.specs.Bytes.{Bytes, pick, and, or, blank, digit, figure, nonEmpty, all, trim, dropFront, dropBack, keepBefore, valueFrom, value, before, behind}
+use borrow.Author.Tests.{eqb-true, ne-eqb}
+use Rattle.number.specs.Bytes.{Bytes, pick, and, blank, digit, figure, nonEmpty, all, trim, dropFront, dropBack, keepBefore, valueFrom, value, before, behind}
 use Rattle.number.specs.Positive.{Number, noNumber, number, written, decimal, unsigned, parted, mark, mantissa, power, powered, powerDigits, below, powerWritten, right, left, out, decimalOf, numberOf, decimalsIn, decimalsOf, numberRead, NumberRange}
-use Rattle.numerals.specs.Scan.{TENTH, FAR, SLICE, run, joined, zerosMore, withDigit, noDigits, partDigit, partStep, signStep, wholeStep, firstStep, powerMore, powerDigit, markStep, bodyStep, exactly, powerEnd, wholeEnd, numberBodyEnd, bodyDecimals, bodyEnd, numberEnd, NumberExact}
+use Rattle.numerals.specs.Scan.{TENTH, FAR, SLICE, run, zerosMore, withDigit, noDigits, partDigit, partStep, signStep, wholeStep, firstStep, powerDigit, markStep, bodyStep, exactly, wholeEnd, numberBodyEnd, bodyDecimals, bodyEnd, numberEnd, NumberExact}
 use Rattle.number.specs.declared.positive.NumberRead.{NumberRead}
 use Rattle.numerals.specs.declared.scan.Digits.{Digits}
 use Rattle.numerals.specs.declared.scan.Body.{Body}
-use Rattle.number.proofs.Tests.{cases, never, and-left, and-right, and-false, digit-low, digit-high, point-no-digit}
+use Rattle.number.proofs.Tests.{cases, never, and-left, and-right, and-false, digit-low}
+use Rattle.number.proofs.DigitLaws.{digit-no-mark}
 use Rattle.numerals.proofs.Trim.{solid, apart, trimmed, digits-solid, rest-blank, plus-solid, minus-solid, point-solid, digit-solid}
 use Rattle.numerals.proofs.TenLaws.{exactly-to, exactly-from}
 use Rattle.numerals.proofs.DigitLaws.{Holds, holds-none, holds-more, answer, holds-answer}
@@ -31,10 +32,7 @@ unfolding run bodyStep numberBodyEnd
 dead [] = refl
 dead (b ∷ t) = dead t
 
--- a digit is no point and no mark
-pub digit-no-mark : (b : ℕ) → digit b ≡ true → mark b ≡ false
-digit-no-mark b d = let h = digit-high b d in rw (ne-eqb b 101 (λ e. omega arith), ne-eqb b 69 (λ e. omega arith))
-
+-- a digit is no point
 digit-no-point : (b : ℕ) → digit b ≡ true → eqb b (code ".") ≡ false
 digit-no-point b d = let h = digit-low b d in ne-eqb b 46 (λ e. omega arith)
 

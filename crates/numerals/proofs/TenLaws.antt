@@ -11,7 +11,7 @@ use borrow.Author.Tests.{eqb-true, eqb-false, ltb-true, leb-true, leb-false, lt-
 use Rattle.number.specs.Bytes.{pick, and}
 use Rattle.number.specs.Positive.{Number, noNumber, number}
 use Rattle.numerals.specs.Scan.{TOP, FAR, limited, tenths, exactly, ended}
-use Rattle.number.proofs.Tests.{cases, and-left, and-right, and-false}
+use Rattle.number.proofs.Tests.{cases, and-left, and-right}
 use Rattle.number.proofs.Powers.{ten-pos, shift}
 
 pub record Exact (q up down m : ℕ) : Type 0 where

@@ -1,10 +1,10 @@
 // Numbers as bytes come one by one: blanks at the ends, a sign, digits, a point, an exponent. What a scan is worth is told at its end, as an Int
 // or as a positive number.
 ghost use mathlib.Core.Path.{_≡_};
-ghost use Prim.Native.Nat.{ℕ, _+_, _*_, min};
+ghost use Prim.Native.Nat.{_+_, _*_, min};
 ghost use Rattle.number.specs.Bytes.{figure};
 ghost use Rattle.number.specs.Positive.{mark};
-ghost use Rattle.numerals.specs.Scan.{FAR, run, joined, zerosMore, withDigit, wholeDigit, partDigit, partStep, signStep, wholeStep, firstStep, powerDigit, markStep, bodyStep, start, step};
+ghost use Rattle.numerals.specs.Scan.{FAR, joined, zerosMore, withDigit, wholeDigit, partDigit, partStep, signStep, wholeStep, firstStep, powerDigit, markStep, bodyStep, start, step};
 use crate::byte::figure_of;
 use crate::byte::is_digit;
 use crate::ends::Ends;

@@ -21,7 +21,7 @@ use Rattle.pieces.specs.Numerals.{numeralP, valueOf}
 use Rattle.pieces.specs.Parts.{hashP, fiveP}
 use Rattle.pieces.proofs.Answers.{last, moved}
 use Rattle.pieces.specs.declared.Piece.{Piece}
-use Rattle.pieces.specs.declared.Piece.the-variants.{Got, Open, Bad}
+use Rattle.pieces.specs.declared.Piece.the-variants.{Open}
 
 -- other values for the same bytes
 lit-map : {A B : Type 0} (a : A) (g : A → B) (cs x : Bytes) → andThen (litP cs a x) (λ z. retP (g z)) ≡ andThen (litP {A = ℕ} cs 0 x) (λ z t. done (g a) t)

@@ -28,9 +28,9 @@ use Rattle.pieces.proofs.Answers.{last, Fails, pass, stepped}
 use Rattle.pieces.proofs.CharacterLaws.{plain-quote}
 use Rattle.scan.specs.Pieces.{Got as StepSays}
 use Rattle.scan.specs.declared.Step.{Step}
-use Rattle.scan.specs.declared.Step.the-variants.{Done, Open as Unended, Bad as Dead}
+use Rattle.scan.specs.declared.Step.the-variants.{Done, Open as Unended}
 use Rattle.pieces.specs.declared.Piece.{Piece}
-use Rattle.pieces.specs.declared.Piece.the-variants.{Got, Open, Bad}
+use Rattle.pieces.specs.declared.Piece.the-variants.{Open}
 use mir.Val.{boolByte}
 
 module _ (q : ℕ) (s : Bytes) (at : ℕ) where

@@ -3,12 +3,12 @@ use mathlib.Core.Path.{_≡_, refl, sym, ap, _∙_}
 use Prim.Native.Nat.{ℕ, _-_, _≤_, _<_}
 use native.Mathlib.Omega.{arith}
 use lib.ListN.{length, drop, length-drop}
-use Rattle.exact.specs.Exact.{Out, done, more, bad, done≢more, done≢bad, more≢bad}
+use Rattle.exact.specs.Exact.{Out, done, bad, done≢more, done≢bad, more≢bad}
 use Rattle.grammar.specs.Bytes.{Bytes}
 use Rattle.scan.specs.Pieces.{Got as StepSays}
 use Rattle.scan.specs.declared.Step.{Step}
 use Rattle.scan.specs.declared.Step.the-variants.{Done, Open as Unended, Bad as Dead}
-use Rattle.pieces.specs.Says.{Known, Broken, Says}
+use Rattle.pieces.specs.Says.{Says}
 use Rattle.pieces.specs.declared.Piece.{Piece}
 use Rattle.pieces.specs.declared.Piece.the-variants.{Got, Open, Bad}
 

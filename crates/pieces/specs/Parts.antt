@@ -52,11 +52,11 @@ pub record InValue (q : ℕ) (s : Bytes) (at i : ℕ) : Type 0 where
   pub from : at ≤ i
   pub same : valueP q (drop at s) ≡ loopP (turnP q) k (drop i s)
 
--- raw bytes from `at` up to r
 -- n bytes from i on stand as themselves in quotes q
 abbrev pub Plain : ℕ → Bytes → ℕ → ℕ → Type 0
 Plain q s i n = (k : ℕ) → k < n → plainByte (banned q) (getD s (i + k) 0) ≡ true
 
+-- raw bytes from `at` up to r
 pub record Ran (q : ℕ) (s : Bytes) (at r : ℕ) : Type 0 where
   pub from : at ≤ r
   pub same : (k : Acc) → (k′ : Acc) × (loopP (turnP q) k (drop at s) ≡ loopP (turnP q) k′ (drop r s))

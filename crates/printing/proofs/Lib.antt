@@ -1,3 +1,2 @@
 pub mod PutLaws
-pub mod PrintLaws
 pub mod PieceLaws

@@ -1,4 +1,2 @@
-pub mod Digits
 pub mod Put
 pub mod Writes
-pub mod Examples

@@ -1,7 +1,7 @@
 // Decimal digits.
 ghost use mathlib.Core.Path.{_≡_};
 ghost use Rattle.printing.specs.Put.{Wrote, Countable};
-ghost use Rattle.printing.specs.Digits.{lastDigit, printInt, places};
+ghost use Rattle.number.specs.Digits.{lastDigit, printInt, places};
 use crate::bytes::put_byte;
 
 fn last_digit(n: u64) -> u8

@@ -12,8 +12,6 @@ use Rattle.grammar.specs.Answer.{Answer, Answers, endsAt, moreFrom, malformedAt
 use Rattle.model.specs.Messages.{messageP, message-exact}
 use Rattle.model.specs.Answers.{answered}
 use Rattle.model.specs.Theorems.{answers-only}
-use Rattle.reader.specs.Answer.{paper as answerPaper}
-use Rattle.reader.specs.declared.answer.Answer.{Answer as Read}
 use Rattle.number.specs.Whole.{intOf, capped, paper as intPaper}
 use Rattle.number.specs.Positive.{Number, numberOf, decimalsOf, numberRead}
 use Rattle.number.specs.declared.whole.WholeRead.{WholeRead}
@@ -26,7 +24,7 @@ use Rattle.lane.specs.declared.Moved.{Moved}
 use Rattle.message.specs.Checked.{Checks, ends, more, malformed, too-long, unread}
 use Rattle.message.specs.declared.checking.Checked.{Checked}
 use Rattle.message.specs.declared.cells.Message.{Message}
-use Rattle.events.specs.Events.{eventOf}
+use Rattle.meant.specs.Events.{eventOf}
 use Rattle.promises.specs.Receiving.{movedBy, Receives}
 use Rattle.promises.specs.Bench.{Case, reads, says, whole, positive, receives, readingIn, readingOf, Holds, All, bench, bench-holds}
 use Rattle.promises.specs.declared.Received.{Received}
@@ -50,7 +48,7 @@ Tells l (tooLongFrom start) r = (r .refusal ≡ 3) × (r .lane ≡ blank l)
 -- what the calls answer to a row
 abbrev pub Carried : Case → Type 0
 Carried (reads s a) =
-    ((r : Read) → Answers (text s) (answerPaper r) → answerPaper r ≡ a)
+    ((b : Answer) → Answers (text s) b → b ≡ a)
     × ((c : Checked) → Checks (text s) c → Shows a c)
     × ((l : Lane) (old new : Bytes) (r : Received) → Receives l (text s) old new r → 525 ≤ length old → Tells l a r)
 Carried (says s end kind) =
@@ -106,7 +104,7 @@ Aside (receives l s v) = length (text s) ≤ MESSAGE
 carried : (c : Case) → Aside c → Holds c → Carried c
 carried (reads s a) n e =
     let x : Answers (text s) a = subst (λ (a : Answer). Answers (text s) a) e (answered (text s)) in
-    (λ r h. answers-only (text s) (answerPaper r) a h x, λ c h. shown a x h, λ l old new r p room. tells p room a (shown a x (p .checks)))
+    (λ b h. answers-only (text s) b a h x, λ c h. shown a x h, λ l old new r p room. tells p room a (shown a x (p .checks)))
 carried (says s end kind) (n, pass) (e, l, k, z) = (check-of, receive-of)
   where
     found : (rest : Bytes) (c : Checked) → Checks (text s ++ rest) c → Finds (text s) (readingOf s) c

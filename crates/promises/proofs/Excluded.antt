@@ -16,7 +16,7 @@ use Rattle.message.specs.Messages.{messageFrom}
 use Rattle.message.specs.declared.checking.Checked.{Checked}
 use Rattle.message.specs.declared.cells.Message.{Message}
 use Rattle.meant.specs.Meant.{refusalOf}
-use Rattle.events.specs.Events.{Carried, eventOf, eventSent}
+use Rattle.meant.specs.Events.{Carried, eventOf, eventSent}
 use Rattle.promises.specs.Runs.{receives, sends, Outcome, waits, ends, moves, Follows, answers, lacks, refuses, may-not, no-room, goes}
 use Rattle.promises.proofs.BenchCalls.{bench-carried}
 use Rattle.promises.proofs.WholeHandover.{texts, service, service-good}

@@ -1,7 +1,5 @@
-pub mod IdLaws
 pub mod SoundLaws
-pub mod ReceiveLaws
-pub mod SendLaws
+pub mod KindLaws
 pub mod ListedLaws
 pub mod Theorems
 pub mod Orders

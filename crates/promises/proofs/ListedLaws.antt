@@ -1,6 +1,6 @@
 -- Which refusals the attribute table gives: 0, 4, 5 or 6, in reading and in sending.
 use Rattle.spelling.specs.Written.{matter}
-use mathlib.Core.Path.{_≡_, refl, sym, ap, _∙_}
+use mathlib.Core.Path.{_≡_, refl}
 use mathlib.Core.List.{List, [], _∷_}
 use mathlib.Core.Bool.{Bool, true, false, _&&_, not, cond}
 use Prim.Native.Nat.{ℕ, zero, suc, max}
@@ -16,7 +16,7 @@ use Rattle.lane.specs.Chart.{among}
 use Rattle.value.specs.declared.text.Span.{Span}
 use Rattle.value.specs.declared.text.Words.the-variants.{Absent as NoWords, Present as IsWords}
 use Rattle.table.specs.Table.{Row, Form, words, someWords, whole, guid, version, positive, features, Need, required, optional, requiredWith, ignored}
-use Rattle.table.specs.Says.{Value, Result, present, absent, refused, aText, anInt, anId, millionths, noted, notes, when, limited, without, ranged, measured, judged, given, nameOf, childrenOf, featured, sought, byNeed, tried, refusalIn, first, refusalOf}
+use Rattle.table.specs.Says.{Value, Result, present, refused, aText, anInt, anId, millionths, noted, notes, when, without, ranged, measured, judged, given, nameOf, childrenOf, featured, sought, byNeed, tried, refusalIn, first, refusalOf}
 use Rattle.message.specs.Fields.{Field, none, aWords, aWhole, aMeasure, aGuid, aFeatures}
 use Rattle.message.specs.declared.values.Whole.the-variants.{Absent as NoWhole, Present as IsWhole}
 use Rattle.message.specs.declared.values.Measure.the-variants.{Absent as NoMeasure, Present as IsMeasure}

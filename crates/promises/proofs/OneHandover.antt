@@ -1,18 +1,17 @@
 -- "two makers must see one handover": what one lane sends, the lane of the other side accepts, and both are left in the same state, with the same BoardIds
 -- and order. Of forecasts the receiver's lane keeps what the message carries; the sender's does not, so the two need not keep the same.
 use mathlib.Core.Path.{_≡_, refl, sym, ap, subst, _∙_}
-use mathlib.Core.List.{List, [], _∷_, _++_}
+use mathlib.Core.List.{_++_}
 use mathlib.Core.Bool.{Bool, true, false, cond}
-use mathlib.Core.Logic.{_⊎_, inl, inr, ⊎-elim}
-use Prim.Native.Nat.{ℕ, zero, suc, _≤_}
+use mathlib.Core.Logic.{_⊎_, inl, ⊎-elim}
+use Prim.Native.Nat.{ℕ, _≤_}
 use native.Mathlib.Omega.{arith}
 use lib.ListN.{length, take}
 use lib.Dec.{T, eqb, eqb→eq}
-use borrow.Author.Tests.{eqb-true, eqb-false, eq-eqb, ne-eqb}
 use Rattle.number.proofs.Tests.{cases}
 use Rattle.grammar.specs.Bytes.{Bytes, text}
 use Rattle.lane.specs.Names.{U, D}
-use Rattle.lane.specs.Chart.{both, isFree, mayName, Received as IsReceived, Sent as IsSent, chart, byRows, next}
+use Rattle.lane.specs.Chart.{isFree, mayName, Received as IsReceived, Sent as IsSent, chart, byRows, next}
 use Rattle.lane.specs.Record.{fresh, carriesOwn, other, stepIn, stepOut, received, sent}
 use Rattle.lane.specs.Laws.{by-rows, received-by, sent-by}
 use Rattle.lane.specs.declared.Event.{Event}
@@ -30,8 +29,7 @@ use Rattle.message.specs.Messages.{idOf, called}
 use Rattle.message.specs.declared.checking.Checked.{Checked}
 use Rattle.message.specs.declared.cells.Message.{Message}
 use Rattle.meant.specs.Meant.{refusalOf}
-use Rattle.events.specs.Events.{Carried, eventOf, forecastId, Carries, carriedBy, eventSent}
-use Rattle.events.specs.Says.{eventWith}
+use Rattle.meant.specs.Events.{Carried, eventOf, forecastId, Carries, carriedBy, eventSent, eventWith}
 use Rattle.promises.specs.Receiving.{Receives}
 use Rattle.promises.specs.Sending.{Sends}
 use Rattle.promises.specs.Mirror.{Mirrored}

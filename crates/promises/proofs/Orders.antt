@@ -24,10 +24,10 @@ use Rattle.message.specs.Checked.{Checks}
 use Rattle.message.specs.Messages.{idOf}
 use Rattle.message.specs.declared.checking.Checked.{Checked}
 use Rattle.message.specs.declared.cells.Message.{Message}
-use Rattle.reads.proofs.Theorems.{check-only}
+use Rattle.message.proofs.Theorems.{check-only}
 use Rattle.meant.specs.Notices.{notice}
 use Rattle.meant.proofs.Theorems.{notice-lengths}
-use Rattle.events.specs.Events.{eventOf, eventSent}
+use Rattle.meant.specs.Events.{eventOf, eventSent}
 use Rattle.promises.specs.Receiving.{asksReply, movedBy, Owes, nothing-yet, a-notice, a-reply, no-reply, told, Receives}
 use Rattle.promises.specs.Sending.{Sends}
 use Rattle.promises.specs.declared.Received.{Received}

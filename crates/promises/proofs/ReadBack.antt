@@ -20,7 +20,7 @@ use Rattle.value.specs.declared.id.Guid.{Guid}
 use Rattle.value.specs.declared.text.Span.{Span}
 use Rattle.value.specs.declared.text.Words.{Words}
 use Rattle.value.specs.declared.text.Words.the-variants.{Absent as NoWords, Present as IsWords}
-use Rattle.table.specs.Table.{Row, Form, words, someWords, whole, guid, version, positive, features, Need, rowsOf, isGuid}
+use Rattle.table.specs.Table.{Row, Form, words, someWords, whole, guid, version, positive, features, Need, rowsOf}
 use Rattle.table.specs.Theorems.{plainNeed, plainRows, plain-table, plain-flag, by-flag}
 use Rattle.table.specs.Says.{Result, absent, present, refused, aText, anId, TOO_LONG, when, judged, given, sought, refusalIn, first, without, byNeed, tried, valuesOf}
 use Rattle.message.specs.Fields.{Field, none, aWords, aWhole, aMeasure, aGuid, aFeatures, idIn, theWords, placedBy, fieldFor, fieldOf, fieldsIn}
@@ -32,7 +32,7 @@ use Rattle.message.proofs.GuidLaws.{both}
 use Rattle.message.proofs.BackLaws.{sortOf, sortIn, sortsOf, sortsIn, sorts-kind, ids-next, handed-back, handed-id}
 use Rattle.message.proofs.MessageLaws.{plain-placed}
 use Rattle.message.proofs.CalledLaws.{isShort, is-short, shortNamed, given-has, kept-limit}
-use Rattle.events.specs.Events.{Carried, no-forecast, a-forecast, Carries, carries-none, carries-one, carriedIn}
+use Rattle.meant.specs.Events.{Carried, no-forecast, a-forecast, Carries, carries-none, carries-one, carriedIn}
 use Rattle.meant.specs.Meant.{textAt, idMeant, meantAs, meantBy, meantOf, firstIn, refusalOf}
 use Rattle.meant.proofs.MessageLaws.{refusal-table}
 

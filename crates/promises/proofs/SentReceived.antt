@@ -1,19 +1,19 @@
 -- T2.W6: what one end sends, the other end's `check` reads as that message. T2.L10 for the reply that receiving writes.
 use mathlib.Core.Path.{_≡_, refl, sym, ap, subst, _∙_}
-use mathlib.Core.List.{List, [], _∷_, _++_}
-use mathlib.Core.Bool.{true, false}
-use Prim.Native.Nat.{ℕ, _+_, _-_, _≤_, _<_}
+use mathlib.Core.List.{List, [], _++_}
+use mathlib.Core.Bool.{true}
+use Prim.Native.Nat.{ℕ, _+_, _-_, _≤_}
 use native.Mathlib.Omega.{arith}
 use lib.ListN.{length, take, drop}
 use lib.Seq.{take-append-seam}
 use lib.Dec.{eqb, leb}
-use borrow.Author.Tests.{leb-false, le-leb, eq-eqb}
+use borrow.Author.Tests.{le-leb, eq-eqb}
 use Rattle.exact.specs.Chain.{clash}
 use Rattle.grammar.specs.Bytes.{Bytes}
 use Rattle.grammar.specs.Limits.{MESSAGE}
 use Rattle.grammar.specs.Tree.{Tree}
 use Rattle.grammar.specs.Message.{Message as IsMessage, readLayout}
-use Rattle.grammar.specs.Answer.{Answer, Answers, endsAt, moreFrom, malformedAt, tooLongFrom}
+use Rattle.grammar.specs.Answer.{Answers, endsAt, moreFrom, malformedAt, tooLongFrom}
 use Rattle.model.specs.Cuts.{piece-behind}
 use Rattle.model.specs.Theorems.{one-reading, answers-only}
 use Rattle.lane.specs.declared.Lane.{Lane}
@@ -21,22 +21,22 @@ use Rattle.value.specs.declared.text.Words.{Words}
 use Rattle.table.specs.Table.{Row, isKind, rowsOf}
 use Rattle.table.specs.Theorems.{rows-table}
 use Rattle.table.specs.Says.{childOf, saidOf, valuesOf}
-use Rattle.message.specs.Checked.{Checks, ends, more, malformed, too-long, messageOf, placesIn, checkedAs}
+use Rattle.message.specs.Checked.{Checks, ends, more, malformed, too-long, messageOf, placesIn}
 use Rattle.message.specs.Handed.{HandedOut}
 use Rattle.message.specs.Messages.{messageFrom, fieldsOf}
 use Rattle.message.specs.declared.checking.Checked.{Checked}
 use Rattle.message.specs.declared.cells.Message.{Message}
-use Rattle.reads.proofs.Theorems.{handed-out}
+use Rattle.message.proofs.Theorems.{handed-out}
 use Rattle.meant.specs.Meant.{meantOf, refusalOf}
 use Rattle.meant.specs.Written.{writtenOf}
 use Rattle.meant.proofs.Theorems.{reads-back, written-small}
-use Rattle.written_back.specs.Replies.{SameId}
-use Rattle.written_back.proofs.Theorems.{reply-reads-back}
+use Rattle.meant.specs.Replies.{SameId}
+use Rattle.meant.proofs.ReplyLaws.{reply-reads-back}
 use Rattle.promises.specs.Receiving.{asksReply, replyId, Owes, nothing-yet, a-notice, a-reply, no-reply, Receives}
 use Rattle.promises.specs.Sending.{Sends}
 use Rattle.promises.specs.declared.Received.{Received}
 use Rattle.promises.specs.declared.Sent.{Sent}
-use Rattle.promises.proofs.SendLaws.{accepted-kind}
+use Rattle.promises.proofs.KindLaws.{accepted-kind}
 use Rattle.promises.proofs.Theorems as all
 
 -- an input that starts with a message w of reading t: what any check of it finds

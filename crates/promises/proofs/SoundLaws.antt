@@ -2,7 +2,7 @@
 use mathlib.Core.Path.{_≡_, refl, sym, ap, subst, _∙_}
 use mathlib.Core.List.{List}
 use mathlib.Core.Bool.{Bool, true, false, cond}
-use Prim.Native.Nat.{ℕ, _+_, _-_, _≤_}
+use Prim.Native.Nat.{ℕ, _-_}
 use Prim.Native.String.{String}
 use native.Mathlib.Omega.{arith}
 use lib.ListN.{length, take, drop}
@@ -11,23 +11,23 @@ use borrow.Author.Tests.{eqb-true}
 use Rattle.grammar.specs.Bytes.{Bytes, text}
 use Rattle.grammar.specs.Tree.{Tree}
 use Rattle.grammar.specs.Message.{Message as IsMessage, readLayout}
-use Rattle.value.specs.Text.{Text}
 use Rattle.value.specs.declared.text.Span.{Span}
 use Rattle.value.specs.declared.text.Words.{Words}
 use Rattle.value.specs.declared.text.Words.the-variants.{Absent as NoWords, Present as IsWords}
 use Rattle.table.specs.Table.{Row, table, rowsOf}
 use Rattle.table.specs.Theorems.{rows-table, each-rows}
 use Rattle.table.specs.Says.{refusalOf, childOf, saidOf}
-use Rattle.message.specs.Fields.{Field, theWords, fieldsIn}
+use Rattle.message.specs.Fields.{theWords, fieldsIn}
 use Rattle.message.specs.Checked.{Checks, ends, more, malformed, too-long, placesIn, messageOf, checkedAs}
-use Rattle.message.specs.Handed.{Has, attributesOf, ReadsAt, HandedOut}
+use Rattle.message.specs.Handed.{HandedOut}
 use Rattle.message.specs.Messages.{messageFrom, blank, calledIn, called}
 use Rattle.message.specs.declared.checking.Checked.{Checked}
 use Rattle.message.specs.declared.cells.Message.{Message}
 use Rattle.message.proofs.BackLaws.{handed-back}
 use Rattle.message.proofs.CalledLaws.{called-place, shortNamed, short-kept, none-called}
-use Rattle.reads.proofs.Theorems.{handed-out}
-use Rattle.events.specs.Says.{Sound}
+use Rattle.message.proofs.Theorems.{handed-out}
+use Rattle.meant.specs.Events.{forecastId, Sound}
+use Rattle.promises.specs.Receiving.{replyId}
 
 not-there : {X : Type 0} {p : Span} → NoWords ≡ IsWords p → X
 not-there e = absurd (let z : _≡_ {A = ℕ} 0 1 = cc in omega arith)
@@ -92,3 +92,13 @@ module _ (n : String) where
   called-accepted (more start p e) q f = not-there (sym (ap (λ (c : Checked). theWords (called n (c .message))) e ∙ none-called (text n) 0) ∙ f)
   called-accepted (malformed start place p e) q f = not-there (sym (ap (λ (c : Checked). theWords (called n (c .message))) e ∙ none-called (text n) 0) ∙ f)
   called-accepted (too-long start p e) q f = not-there (sym (ap (λ (c : Checked). theWords (called n (c .message))) e ∙ none-called (text n) 0) ∙ f)
+
+-- the Id of a CheckAlive
+pub id-sound : {s : Bytes} {c : Checked} → Checks s c → Sound s (replyId (c .message))
+unfolding replyId table
+id-sound x = check-sound "Id" (record { each = λ k. each-rows (shortNamed (text "Id")) table k refl }) x
+
+-- the ForecastId of a MachineReady or a BoardForecast
+pub forecast-sound : {s : Bytes} {c : Checked} → Checks s c → Sound s (forecastId (c .message))
+unfolding forecastId table
+forecast-sound x = check-sound "ForecastId" (record { each = λ k. each-rows (shortNamed (text "ForecastId")) table k refl }) x

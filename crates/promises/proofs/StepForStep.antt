@@ -23,12 +23,12 @@ use Rattle.lane.specs.declared.chart.Step.the-variants.{To, NoTransition}
 use Rattle.message.specs.Checked.{Checks}
 use Rattle.message.specs.declared.checking.Checked.{Checked}
 use Rattle.message.specs.declared.cells.Message.{Message}
-use Rattle.reads.proofs.Theorems.{check-only}
+use Rattle.message.proofs.Theorems.{check-only}
 use Rattle.number.proofs.Tests.{cases}
 use Rattle.meant.specs.Meant.{refusalOf}
 use Rattle.meant.specs.Written.{writtenOf}
-use Rattle.events.specs.Events.{Carried, eventOf, forecastId, Carries, eventSent}
-use Rattle.events.proofs.Theorems.{carries-only}
+use Rattle.meant.specs.Events.{Carried, eventOf, forecastId, Carries, eventSent}
+use Rattle.meant.proofs.EventLaws.{carries-only}
 use Rattle.promises.specs.Receiving.{movedBy, Owes, Receives}
 use Rattle.promises.specs.Sending as sending
 use Rattle.promises.specs.Sending.{Sends}

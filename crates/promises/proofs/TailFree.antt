@@ -1,7 +1,6 @@
 -- T3.13: with a message that ends, nothing behind its end matters: to checking, and to receiving.
 use mathlib.Core.Path.{_≡_, sym, ap, subst, _∙_}
 use mathlib.Core.List.{List, _++_}
-use mathlib.Core.Bool.{true}
 use mathlib.Core.Logic.{⊎-elim}
 use Prim.Native.Nat.{ℕ, _+_, _-_, _≤_}
 use Prim.Native.String.{String}
@@ -9,13 +8,11 @@ use native.Mathlib.Omega.{arith}
 use lib.ListN.{length, take, drop, length-drop}
 use lib.Seq.{drop-append-le, take-append-le, take-all}
 use lib.Dec.{eqb}
-use borrow.Author.Tests.{eqb-true}
 use Rattle.exact.specs.Chain.{clash}
 use Rattle.grammar.specs.Bytes.{Bytes, text}
 use Rattle.grammar.specs.Tree.{Pair, Tree}
 use Rattle.grammar.specs.Message.{Laid, Message as IsMessage}
 use Rattle.grammar.specs.Answer.{Answers, endsAt}
-use Rattle.model.specs.Tests.{and-left}
 use Rattle.model.specs.Theorems.{one-reading, tail-free}
 use Rattle.lane.specs.declared.Event.{Event}
 use Rattle.lane.specs.declared.Lane.{Lane}
@@ -24,22 +21,21 @@ use Rattle.value.specs.Quotes.{text-one}
 use Rattle.value.specs.declared.text.Span.{Span}
 use Rattle.value.specs.declared.text.Words.{Words}
 use Rattle.value.specs.declared.text.Words.the-variants.{Absent as NoWords, Present as IsWords}
-use Rattle.table.specs.Says.{childOf, saidOf}
+use Rattle.table.specs.Says.{childOf}
 use Rattle.message.specs.Checked.{Checks, ends, more, malformed, too-long, checkedAs}
-use Rattle.message.specs.Handed.{Has, has-here, has-later, attributesOf, HandedOut}
+use Rattle.message.specs.Handed.{Has, has-here, has-later, attributesOf}
 use Rattle.message.specs.Fields.{theWords}
 use Rattle.message.specs.Messages.{called}
 use Rattle.message.specs.declared.checking.Checked.{Checked}
-use Rattle.message.specs.declared.cells.Message.{Message}
-use Rattle.reads.proofs.Theorems.{check-only, handed-out}
+use Rattle.message.proofs.Theorems.{check-only, handed-out}
 use Rattle.meant.specs.Written.{writtenOf}
-use Rattle.written_back.specs.First.{firstIn}
-use Rattle.written_back.specs.Replies.{sameOf, Reply, same-id, no-id}
-use Rattle.promises.specs.Receiving.{asksReply, replyId, movedBy, Owes, answerOf, Receives}
+use Rattle.meant.specs.First.{firstIn}
+use Rattle.meant.specs.Replies.{sameOf, Reply, same-id, no-id}
+use Rattle.promises.specs.Receiving.{replyId, movedBy, Owes, answerOf, Receives}
 use Rattle.promises.specs.declared.Received.{Received}
 use Rattle.promises.proofs.SoundLaws.{place-called, called-accepted}
-use Rattle.events.specs.Events.{Carried, eventOf, forecastId, Carries}
-use Rattle.events.proofs.Theorems.{carries-alike}
+use Rattle.meant.specs.Events.{Carried, eventOf, forecastId, Carries}
+use Rattle.meant.proofs.EventLaws.{carries-alike}
 use Rattle.promises.proofs.Theorems as all
 
 -- the bytes of a message that ends at the end of s

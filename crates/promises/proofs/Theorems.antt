@@ -5,7 +5,7 @@ use mathlib.Core.Bool.{Bool, true, false}
 use mathlib.Core.Logic.{_⊎_, inl, inr, ⊎-elim, _↔_}
 use Prim.Native.Nat.{ℕ, _≤_, _<_}
 use native.Mathlib.Omega.{arith}
-use lib.ListN.{length, drop, getD, length-append, length-drop}
+use lib.ListN.{length, drop, length-append, length-drop}
 use lib.Seq.{drop-append-seam}
 use lib.Dec.{eqb, leb}
 use borrow.Author.Tests.{ne-eqb, eq-eqb, eqb-true, eqb-false, leb-true, leb-false, le-leb, lt-leb}
@@ -26,18 +26,18 @@ use Rattle.lane.specs.declared.chart.Step.the-variants.{To, NoTransition}
 use Rattle.table.specs.Table.{table, rowsOf}
 use Rattle.table.specs.Says.{childOf, saidOf, rowsFor}
 use Rattle.message.specs.Checked.{Checks, ends, more, malformed, too-long}
-use Rattle.message.specs.Messages.{fieldsOf, messageBy, idOf}
+use Rattle.message.specs.Messages.{fieldsOf, messageBy}
 use Rattle.message.specs.declared.checking.Checked.{Checked}
 use Rattle.message.specs.declared.cells.Message.{Message}
-use Rattle.reads.proofs.Theorems.{check-only}
+use Rattle.message.proofs.Theorems.{check-only}
 use Rattle.meant.specs.Meant.{refusalOf, rowsWith}
 use Rattle.meant.specs.Written.{writtenOf}
 use Rattle.meant.specs.Notices.{description, notice}
-use Rattle.written_back.specs.First.{firstIn}
-use Rattle.written_back.specs.Replies.{Reply}
-use Rattle.written_back.proofs.Theorems.{reply-one, reply-long}
-use Rattle.events.specs.Events.{Carried, eventOf, forecastId, Carries, eventSent}
-use Rattle.events.proofs.Theorems.{carries-only}
+use Rattle.meant.specs.First.{firstIn}
+use Rattle.meant.specs.Replies.{Reply}
+use Rattle.meant.proofs.ReplyLaws.{reply-one, reply-long}
+use Rattle.meant.specs.Events.{Carried, eventOf, forecastId, Carries, eventSent}
+use Rattle.meant.proofs.EventLaws.{carries-only}
 use Rattle.promises.specs.Receiving.{asksReply, replyId, movedBy, Owes, nothing-yet, a-notice, a-reply, no-reply, noRoom, told, answerOf, Receives, ReceivesInto}
 use Rattle.promises.specs.Sending as sending
 use Rattle.promises.specs.Sending.{Sends}

@@ -21,16 +21,15 @@ use Rattle.message.specs.declared.checking.Checked.{Checked}
 use Rattle.message.specs.declared.cells.Message.{Message}
 use Rattle.meant.specs.Written.{writtenOf}
 use Rattle.meant.specs.Notices.{notice}
-use Rattle.written_back.specs.First.{firstIn}
-use Rattle.written_back.specs.Replies.{sameOf, bareOf, Reply, same-id, no-id}
+use Rattle.meant.specs.First.{firstIn}
+use Rattle.meant.specs.Replies.{sameOf, bareOf, Reply, same-id, no-id}
 use Rattle.promises.specs.Receiving.{asksReply, replyId, movedBy, Owes, nothing-yet, a-notice, a-reply, no-reply, answerOf, Receives}
-use Rattle.events.specs.Events.{Carried, no-forecast, a-forecast, eventOf, forecastId, Carries, carries-none, carries-one}
-use Rattle.events.specs.Says.{Sound}
+use Rattle.meant.specs.Events.{Carried, no-forecast, a-forecast, eventOf, forecastId, Carries, carries-none, carries-one, Sound}
 use Rattle.promises.specs.Sending as sending
 use Rattle.promises.specs.Sending.{Sends}
 use Rattle.promises.specs.declared.Received.{Received}
 use Rattle.promises.specs.declared.Sent.{Sent}
-use Rattle.promises.proofs.ReceiveLaws.{id-sound, forecast-sound}
+use Rattle.promises.proofs.SoundLaws.{id-sound, forecast-sound}
 
 -- the bytes of a message that ends
 ended-bytes : (s g w rest : Bytes) (start end : ℕ) → s ≡ g ++ (w ++ rest) → start ≡ length g → end ≡ length g + length w → take (end - start) (drop start s) ≡ w

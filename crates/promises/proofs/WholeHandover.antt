@@ -26,7 +26,7 @@ use Rattle.lane.specs.declared.Moved.{Moved}
 use Rattle.lane.specs.declared.ids.Forecast.{Forecast}
 use Rattle.lane.specs.declared.chart.Step.the-variants.{To}
 use Rattle.value.specs.declared.text.Words.the-variants.{Absent as NoWords, Present as IsWords}
-use Rattle.table.specs.Table.{table, rowsOf}
+use Rattle.table.specs.Table.{table}
 use Rattle.message.specs.Fields.{Field, aWords, aWhole, aMeasure, aGuid, aFeatures}
 use Rattle.message.specs.Cells.{cellsOf, fieldsFrom, fieldBy, wordsBy, wholeBy, measureBy, guidBy, featuresBy}
 use Rattle.message.specs.Messages.{messageFrom, fieldsOf, idOf, withZeros}
@@ -35,7 +35,7 @@ use Rattle.message.specs.declared.values.Measure.the-variants.{Absent as NoMeas
 use Rattle.message.specs.declared.cells.Message.{Message}
 use Rattle.meant.specs.Meant.{meantBy, meantOf, refusalOf}
 use Rattle.meant.specs.Written.{writtenOf}
-use Rattle.events.specs.Events.{no-forecast, a-forecast, forecastOf, forecastId, carriedBy}
+use Rattle.meant.specs.Events.{no-forecast, a-forecast, forecastOf, forecastId, carriedBy}
 use Rattle.promises.specs.Mirror.{Mirrored}
 use Rattle.promises.specs.Sending.{movedBy}
 use Rattle.promises.specs.Exchange.{Passing, Passes, Line, Said, fromU, fromD, lineOf, laneAt, Says, Exchanges, Goes, AllGo, handover, changeover}

@@ -29,7 +29,7 @@ use Rattle.lane.specs.Record.{fresh, sent, righted}
 use Rattle.lane.specs.Free.{check-alive-received}
 use Rattle.lane.specs.declared.Lane.{Lane}
 use Rattle.value.specs.declared.text.Words.{Words}
-use Rattle.table.specs.Table.{table, rowsOf, kindOf}
+use Rattle.table.specs.Table.{table}
 use Rattle.table.specs.Says.{judged, tried, refusalOf, childOf, saidOf}
 use Rattle.message.specs.Fields.{fieldFor, fieldsIn}
 use Rattle.message.specs.Checked.{messageOf}
@@ -39,8 +39,8 @@ use Rattle.message.specs.declared.checking.Checked.{Checked}
 use Rattle.message.specs.declared.cells.Message.{Message}
 use Rattle.meant.specs.Notices.{notice}
 use Rattle.meant.proofs.Theorems.{notice-lengths}
-use Rattle.events.specs.Events.{eventOf}
-use Rattle.promises.specs.Receiving.{asksReply, replyId, movedBy, Owes, nothing-yet, a-notice, a-reply, no-reply, Receives}
+use Rattle.meant.specs.Events.{eventOf}
+use Rattle.promises.specs.Receiving.{asksReply, movedBy, Owes, nothing-yet, a-notice, a-reply, no-reply, Receives}
 use Rattle.promises.specs.Sending.{Sends}
 use Rattle.promises.specs.Bench.{readingOf}
 use Rattle.promises.specs.declared.Received.{Received}

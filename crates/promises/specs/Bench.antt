@@ -17,17 +17,15 @@ use Rattle.grammar.specs.Tree.{Tree, tree, no-trees}
 use Rattle.grammar.specs.Answer.{Answer, moreFrom, malformedAt}
 use Rattle.model.specs.Characters.{second3, third3, second4, plainByte, charP}
 use Rattle.model.specs.References.{alive, begun, okay, numberP, namedP, refP}
-use Rattle.model.specs.Values.{itemP, valueP}
+use Rattle.model.specs.Values.{itemP, valueP, turnP as VturnP}
 use Rattle.model.specs.Names.{live, new}
-use Rattle.model.specs.Attributes.{endP, quotedP, equalsP, attrP, headP}
+use Rattle.model.specs.Attributes.{endP, quotedP, equalsP, attrP, headP, turnP as AturnP}
 use Rattle.model.specs.Comments.{noDashP, dashP, markP, marksP, commentP}
 use Rattle.model.specs.Fillers.{textP, markupP, bitP, peekP, fillP}
 use Rattle.model.specs.Elements.{closeP, elemP, leafTagP, nodeTagP, contentTurnP, contentP}
 use Rattle.model.specs.Declarations.{versionP, encodingP, yesNoP, settingP, behindStandaloneP, standaloneOrEndP, behindEncodingP, behindVersionP, declarationP}
 use Rattle.model.specs.Messages.{rootP, layoutP, messageP}
 use Rattle.model.specs.Answers.{leading, following, answerAt, answerOf}
-use Rattle.model.specs.Values.{turnP as VturnP}
-use Rattle.model.specs.Attributes.{turnP as AturnP}
 use Rattle.number.specs.Bytes.{hex, trim, dropBack, dropFront, keepBefore, blank, nonEmpty as someByte, all, digit as isDigit, valueFrom, before, behind}
 use Rattle.number.specs.Guid.{guidOf, filled, may}
 use Rattle.number.specs.Whole.{Whole, noInt, int, intOf, signed, sized}
@@ -37,14 +35,14 @@ use Rattle.lane.specs.Chart.{next, byRows, chart}
 use Rattle.lane.specs.Record.{noId, sameId, received, noForecast, righted}
 use Rattle.lane.specs.declared.Lane.{Lane}
 use Rattle.lane.specs.declared.Moved.{Moved}
-use Rattle.table.specs.Table.{table, rowsOf, kindOf}
+use Rattle.table.specs.Table.{table}
 use Rattle.table.specs.Says.{judged, tried, refusalOf, childOf, saidOf}
 use Rattle.message.specs.Fields.{fieldFor, fieldsIn}
 use Rattle.message.specs.Checked.{messageOf}
 use Rattle.message.specs.Cells.{cellsOf, fieldsFrom, fieldBy, guidBy}
 use Rattle.message.specs.Messages.{messageFrom, idOf, fieldsOf, withZeros}
 use Rattle.value.specs.declared.text.Words.{Words}
-use Rattle.events.specs.Events.{Carried, eventOf}
+use Rattle.meant.specs.Events.{Carried, eventOf}
 
 pub data Case : Type 0 where
   reads : String → Answer → Case

@@ -13,7 +13,7 @@ use Rattle.grammar.specs.Bytes.{Bytes}
 use Rattle.message.specs.declared.cells.Message.{Message}
 use Rattle.meant.specs.Meant.{refusalOf}
 use Rattle.meant.specs.Written.{writtenOf}
-use Rattle.events.specs.Events.{Carried, no-forecast, a-forecast, forecastOf, isThere, eventSent}
+use Rattle.meant.specs.Events.{Carried, no-forecast, a-forecast, forecastOf, isThere, eventSent}
 use Rattle.promises.specs.Receiving.{Receives}
 use Rattle.promises.specs.Sending.{Sends}
 use Rattle.promises.specs.declared.Received.{Received}

@@ -2,20 +2,16 @@
 use mathlib.Core.Path.{_≡_}
 use mathlib.Core.List.{List, []}
 use mathlib.Core.Bool.{Bool, true, false, _&&_, cond}
-use Prim.Native.Nat.{ℕ, _+_, _≤_}
-use lib.ListN.{length, take, drop, replicate}
+use Prim.Native.Nat.{ℕ}
+use lib.ListN.{length, take}
 use lib.Dec.{eqb, leb}
 use Rattle.lane.specs.Names.{NoOrder, CheckAlive}
-use Rattle.lane.specs.Record.{noId, ended, kept, received}
+use Rattle.lane.specs.Record.{ended, kept, received}
 use Rattle.lane.specs.declared.Event.{Event}
 use Rattle.lane.specs.declared.Lane.{Lane}
 use Rattle.lane.specs.declared.Moved.{Moved}
 use Rattle.grammar.specs.Bytes.{Bytes}
-use Rattle.value.specs.Text.{Text}
-use Rattle.value.specs.declared.text.Span.{Span}
 use Rattle.value.specs.declared.text.Words.{Words}
-use Rattle.value.specs.declared.text.Words.the-variants.{Present as IsWords}
-use Rattle.message.specs.Cells.{wholeBy}
 use Rattle.message.specs.Fields.{theWords, theWhole}
 use Rattle.message.specs.Checked.{Checks}
 use Rattle.message.specs.Messages.{messageBy, blank, called}
@@ -24,11 +20,9 @@ use Rattle.message.specs.declared.values.Whole.{Whole}
 use Rattle.message.specs.declared.values.Whole.the-variants.{Absent as NoWhole, Present as IsWhole}
 use Rattle.message.specs.declared.cells.Message.{Message}
 use Rattle.meant.specs.Notices.{notice}
-use Rattle.reads.specs.declared.checking.Found.{Found}
-use Rattle.writes.specs.declared.messages.Written.{Written as Count}
-use Rattle.written_back.specs.First.{First, firstIn}
-use Rattle.written_back.specs.Replies.{Reply}
-use Rattle.events.specs.Events.{Carried, eventOf, forecastId, Carries}
+use Rattle.meant.specs.First.{firstIn}
+use Rattle.meant.specs.Replies.{Reply}
+use Rattle.meant.specs.Events.{Carried, eventOf, forecastId, Carries}
 use Rattle.promises.specs.declared.Receipt.{Receipt}
 use Rattle.promises.specs.declared.Received.{Received}
 
@@ -90,35 +84,7 @@ pub record Receives (l : Lane) (s old new : Bytes) (r : Received) : Type 0 where
   pub answer : r ≡ answerOf l checked (eventOf (checked .message) forecast) due (length old)
   pub buffer : new ≡ firstIn due old
 
--- For proofs of inner functions: what is written back.
-pub record Written (s : Bytes) (m : Message) (n : ℕ) (old new : Bytes) (w : Count) : Type 0 where
-  pub due : Bytes
-  pub owes : Owes s m n due
-  pub first : First due old new w
-
--- so for each message that asks for a reply or not, and has that Id
-pub record Answers (s : Bytes) (n : ℕ) (asks : Bool) (id : Words) (old new : Bytes) (w : Count) : Type 0 where
-  pub says : (m : Message) → asks ≡ asksReply m → (asks ≡ true → id ≡ replyId m) → Written s m n old new w
-
--- The same with a message's cells and its BoardId instead of the message.
-abbrev pub asksBy : ℕ → ℕ → ℕ → Bool
-asksBy k t n = eqb k CheckAlive && isPing (wholeBy t n)
-
-abbrev pub noReceipt : Lane → Receipt
-noReceipt l = record { refusal = 7; lane = l; order = NoOrder; used = 0; written = 0; place = 0; kind = 0; id = noId }
-
-abbrev pub refusedBy : Found → Moved → ℕ → Receipt
-refusedBy f v n = record { refusal = v .refusal; lane = v .lane; order = v .order; used = f .end; written = n; place = f .place; kind = 0; id = noId }
-
-abbrev pub toldBy : Found → Moved → ℕ → Receipt
-toldBy f v n = record { refusal = v .refusal; lane = v .lane; order = v .order; used = f .end; written = n; place = f .place; kind = f .kind; id = f .id }
-
--- which of the three; cells that no accepted message stands in are zeros
-pub data Finishes (l : Lane) (f : Found) (v : Moved) (w : Count) (before after : List ℕ) (r : Receipt) : Type 0 where
-  lacks-room : (w .refusal ≡ 0 → ⊥) → after ≡ replicate (length before) 0 → r ≡ noReceipt l → Finishes l f v w before after r
-  refuses : w .refusal ≡ 0 → (v .refusal ≡ 0 → ⊥) → after ≡ replicate (length before) 0 → r ≡ refusedBy f v (w .count) → Finishes l f v w before after r
-  tells : w .refusal ≡ 0 → v .refusal ≡ 0 → after ≡ before → r ≡ toldBy f v (w .count) → Finishes l f v w before after r
-
+-- the same with a message's cells instead of the message
 abbrev pub receivedBy : Receipt → List ℕ → Received
 receivedBy r cells = record {
   refusal = r .refusal;

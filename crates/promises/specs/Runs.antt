@@ -17,7 +17,7 @@ use Rattle.message.specs.declared.checking.Checked.{Checked}
 use Rattle.message.specs.declared.cells.Message.{Message}
 use Rattle.meant.specs.Meant.{refusalOf}
 use Rattle.meant.specs.Written.{writtenOf}
-use Rattle.events.specs.Events.{Carried, eventOf, forecastId, Carries, eventSent}
+use Rattle.meant.specs.Events.{Carried, eventOf, forecastId, Carries, eventSent}
 use Rattle.promises.specs.Receiving.{Owes, Receives}
 use Rattle.promises.specs.Sending.{Sends}
 use Rattle.promises.specs.declared.Received.{Received}

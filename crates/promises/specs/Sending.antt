@@ -13,7 +13,7 @@ use Rattle.grammar.specs.Bytes.{Bytes}
 use Rattle.message.specs.declared.cells.Message.{Message}
 use Rattle.meant.specs.Meant.{refusalOf}
 use Rattle.meant.specs.Written.{writtenOf}
-use Rattle.events.specs.Events.{eventSent}
+use Rattle.meant.specs.Events.{eventSent}
 use Rattle.promises.specs.declared.Sent.{Sent}
 
 -- "every refusal keeps record and buffer"

@@ -21,7 +21,7 @@ use Rattle.scan.specs.Pieces.{Got, Skipped}
 use Rattle.scan.proofs.Chain.{known}
 use Rattle.scan.specs.declared.Step.{Step}
 use Rattle.scan.specs.declared.Step.the-variants.{Done, Open, Bad}
-use Rattle.reader.specs.Outline.{childOf, lead}
+use Rattle.grammar.specs.Places.{childOf, lead}
 use Rattle.reader.specs.Message.{Drawn, GotInner}
 use Rattle.reader.specs.Answer.{AtMost, bare, Outlined}
 use Rattle.reader.specs.declared.message.Inner.{Inner}

@@ -21,7 +21,7 @@ use Rattle.scan.proofs.Chain.{then-done, Fails, never, pass, moved, known}
 use Rattle.scan.specs.declared.Step.{Step}
 use Rattle.scan.specs.declared.Step.the-variants.{Done, Open, Bad}
 use Rattle.fillers.specs.Fills.{fillTok, GotFiller, fill-bind, fill-word}
-use Rattle.reader.specs.Outline.{Outlines}
+use Rattle.grammar.specs.Places.{Outlines}
 use Rattle.reader.specs.Message.{itself, none, GotInner}
 use Rattle.reader.specs.Child.{noChild, Next, Stands, NextChild}
 use Rattle.reader.specs.declared.message.Inner.{Inner}

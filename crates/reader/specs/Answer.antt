@@ -8,7 +8,7 @@ use Rattle.grammar.specs.Limits.{ATTRIBUTES, MESSAGE}
 use Rattle.grammar.specs.Message.{Layout, Laid}
 use Rattle.grammar.specs.Answer.{Answer as PaperAnswer, endsAt, moreFrom, malformedAt, tooLongFrom, Answers}
 use Rattle.tags.specs.Places.{places}
-use Rattle.reader.specs.Outline.{childOf, tagIn, lead, Outlines}
+use Rattle.grammar.specs.Places.{childOf, tagIn, lead, Outlines}
 use Rattle.reader.specs.declared.answer.Answer.{Answer}
 use Rattle.reader.specs.declared.answer.Answer.the-variants.{Ends, More, Malformed, TooLong}
 use Rattle.reader.specs.declared.answer.Outline.{Outline}

@@ -8,7 +8,7 @@ use Rattle.grammar.specs.Bytes.{Bytes}
 use Rattle.grammar.specs.Limits.{DEPTH}
 use Rattle.grammar.specs.Filler.{belowRoot, Filler, spellFiller, GoodFiller}
 use Rattle.grammar.specs.Element.{Element, spellElement, GoodElement}
-use Rattle.reader.specs.Outline.{Outlines}
+use Rattle.grammar.specs.Places.{Outlines}
 use Rattle.reader.specs.declared.answer.Child.{Child}
 
 abbrev pub noChild : Child

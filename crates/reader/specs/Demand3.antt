@@ -12,7 +12,7 @@ use lib.Dec.{eqb, leb}
 use borrow.Author.Tests.{leb-true, leb-false}
 use Rattle.exact.specs.Exact.{inhabited}
 use Rattle.exact.specs.Chain.{clash}
-use Rattle.exact.specs.Byte.{Starts, starts}
+use Rattle.exact.specs.Byte.{starts}
 use Rattle.exact.specs.Limit.{shorter}
 use Rattle.grammar.specs.Bytes.{Bytes, text, every}
 use Rattle.grammar.specs.Limits.{MESSAGE}
@@ -23,7 +23,7 @@ use Rattle.grammar.specs.Answer.{leads, Behind, Open, OpenBeginning, EndedIn, m
 use Rattle.model.specs.Tests.{and-left, and-right, every-left, every-right}
 use Rattle.model.specs.Messages.{message-exact}
 use Rattle.model.specs.Answers.{behind-one, longest-dead}
-use Rattle.model.specs.Cuts.{message-starts, message-ends, piece-behind}
+use Rattle.model.specs.Cuts.{message-ends, piece-behind}
 use Rattle.model.specs.Theorems.{open-down}
 use Rattle.reader.specs.Answer.{paper}
 use Rattle.reader.specs.Theorems.{read-only, accepted-iff, more-iff}

@@ -8,7 +8,6 @@ use Rattle.exact.specs.Exact.{done, Reader}
 use Rattle.grammar.specs.Bytes.{Bytes}
 use Rattle.model.specs.Attributes.{Head, headP}
 use Rattle.scan.specs.Pieces.{Got, nameTok, chained}
-use Rattle.scan.specs.declared.Step.{Step}
 use Rattle.scan.specs.declared.Step.the-variants.{Done}
 use Rattle.tags.specs.Heads.{Noted}
 use Rattle.reader.specs.declared.elements.Start.{Start}

@@ -1,5 +1,4 @@
 -- What the public calls promise: Outline, Answer, Child; what follows: Parts, Theorems; demand 3 of every result: Demand3, Turns.
-pub mod Outline
 pub mod Answer
 pub mod Child
 pub mod Parts

@@ -18,7 +18,7 @@ use Rattle.scan.specs.declared.Step.{Step}
 use Rattle.scan.specs.declared.Step.the-variants.{Done}
 use Rattle.fillers.specs.Fills.{fillTok}
 use Rattle.tags.specs.Heads.{Noted}
-use Rattle.reader.specs.Outline.{innerOf, tagIn, lead, Outlines}
+use Rattle.grammar.specs.Places.{innerOf, tagIn, lead, Outlines}
 use Rattle.reader.specs.declared.message.Inner.{Inner}
 
 abbrev pub withEnd : Inner → Step → Inner

@@ -24,7 +24,7 @@ use Rattle.model.specs.Answers.{behind-one}
 use Rattle.model.specs.Cuts.{message-starts, piece-behind}
 use Rattle.model.specs.Theorems.{one-layout, answers-only, tail-free as tail-free-by}
 use Rattle.tags.specs.Places.{places}
-use Rattle.reader.specs.Outline.{childOf, tagIn, lead, insideFrom, Outlines}
+use Rattle.grammar.specs.Places.{childOf, tagIn, lead, insideFrom, Outlines}
 use Rattle.reader.specs.Answer.{paper, Accepted, RestOf, Outlined}
 use Rattle.reader.specs.declared.answer.Answer.{Answer}
 use Rattle.reader.specs.declared.answer.Answer.the-variants.{Ends, More, Malformed, TooLong}

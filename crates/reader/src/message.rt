@@ -4,7 +4,7 @@ ghost use Prim.Native.Nat.{_-_, _≤_};
 ghost use lib.ListN.{length, take, drop};
 ghost use Rattle.model.specs.Elements.{elemP, contentP};
 ghost use Rattle.model.specs.Messages.{rootP, layoutP};
-ghost use Rattle.reader.specs.Outline.{innerOf, rootLead, childOf, lead};
+ghost use Rattle.grammar.specs.Places.{innerOf, rootLead, childOf, lead};
 ghost use Rattle.reader.specs.Message.{withEnd, none, itself, GotInner, GotInside, declaredP, declaredLead};
 use crate::declaration;
 use crate::elements;

@@ -1,31 +1,26 @@
 -- What is handed out of a message is what its reading says.
 use mathlib.Core.Path.{_≡_, refl, sym, ap, subst, _∙_}
 use mathlib.Core.List.{List, _++_}
-use mathlib.Core.Bool.{Bool, true, false, cond}
 use Prim.Native.Nat.{ℕ, _-_, _*_}
 use native.Mathlib.Omega.{arith}
 use lib.ListN.{length, drop, replicate, length-replicate}
-use lib.Dec.{eqb, leb}
 use Rattle.grammar.specs.Bytes.{Bytes}
-use Rattle.grammar.specs.Tree.{Tree}
 use Rattle.grammar.specs.Message.{readLayout}
 use Rattle.table.specs.Table.{Row, rowsOf}
 use Rattle.table.specs.Says.{refusalOf, childOf, saidOf}
 use Rattle.table.specs.Theorems.{rows-table}
 use Rattle.value.specs.Ids.{noId}
-use Rattle.value.specs.declared.text.Words.{Words}
 use Rattle.message.specs.Fields.{Field, fieldsIn}
-use Rattle.message.specs.Cells.{NUMBERS, isThere, cellAt, fieldsFrom, cellsOf}
-use Rattle.message.specs.Checked.{placesIn, messageOf, Checks, ends as endsSo, more as moreSo, malformed as malformedSo, too-long as tooLongSo}
+use Rattle.message.specs.Cells.{NUMBERS, fieldsFrom, cellsOf}
+use Rattle.message.specs.Checked.{placesIn, messageOf, Checks, ends as endsSo, more as moreSo, malformed as malformedSo, too-long as tooLongSo, ChecksInto}
 use Rattle.message.specs.Messages.{withZeros, idAmong, messageFrom, blank, messageBy, fieldsOf, idOf, idCell, idBy}
 use Rattle.message.specs.declared.checking.Checked.{Checked}
 use Rattle.message.specs.declared.cells.Message.{Message}
 use Rattle.message.proofs.MessageLaws.{message-table, is-refused, is-accepted}
 use Rattle.message.proofs.GuidLaws.{id-of-cells}
-use Rattle.message.proofs.BackLaws.{handed-id}
-use Rattle.reads.specs.Whole.{outcomeOf, CellsChecked, ends, more, malformed, too-long, ChecksInto}
+use Rattle.reads.specs.Whole.{outcomeOf, CellsChecked, ends, more, malformed, too-long}
 use Rattle.reads.specs.Ids.{TakesId}
-use Rattle.reads.specs.declared.checking.Found.{Found}
+use Rattle.message.specs.declared.checking.Found.{Found}
 use Rattle.reads.specs.declared.whole.Outcome.{Outcome}
 use Rattle.reads.proofs.HandLaws.{AsFields, as-fields}
 
@@ -107,32 +102,3 @@ into-refused {s} {told} {o} x z t h = subst (λ (r : Found). ChecksInto s told r
 -- the message that the cells are
 pub handed : {s : Bytes} {cells : List ℕ} {f : Found} → ChecksInto s cells f → Checks s (record { refusal = f .refusal; start = f .start; end = f .end; place = f .place; message = messageBy (f .kind) cells (f .id) })
 handed x = x .checks
-
--- the id of a message that is handed out is its BoardId
-blank-named : (k : ℕ) → noId .bytes ≡ idOf (blank k)
-blank-named k = sym (id-of-cells zeros (noId .bytes) k ∙ go (leb NUMBERS (idCell k)) (isThere (cellAt zeros (idCell k))))
-  where
-    go : (a b : Bool) → cond a (noId .bytes) (cond b (noId .bytes) (noId .bytes)) ≡ noId .bytes
-    go true b = refl
-    go false true = refl
-    go false false = refl
-
-message-named : (k : ℕ) (place : Bytes → Words) (t : Tree) → messageOf k place t .id ≡ idOf (messageOf k place t)
-unfolding messageFrom
-message-named k place t = ap (λ (m : Message). m .id) (message-table k place t) ∙ sym (handed-id k place t)
-
-pub handed-named : {s : Bytes} {c : Checked} → Checks s c → c .message .id ≡ idOf (c .message)
-handed-named (endsSo start end p l w e) = subst (λ (c : Checked). c .message .id ≡ idOf (c .message)) (sym e) (go (eqb (saidOf (readLayout l) .refusal) 0))
-  where
-    k : ℕ
-    k = saidOf (readLayout l) .kind
-
-    m : Message
-    m = messageOf k (placesIn start l) (childOf (readLayout l))
-
-    go : (b : Bool) → cond b m (blank k) .id ≡ idOf (cond b m (blank k))
-    go true = message-named k (placesIn start l) (childOf (readLayout l))
-    go false = blank-named k
-handed-named (moreSo start p e) = subst (λ (c : Checked). c .message .id ≡ idOf (c .message)) (sym e) (blank-named 0)
-handed-named (malformedSo start place p e) = subst (λ (c : Checked). c .message .id ≡ idOf (c .message)) (sym e) (blank-named 0)
-handed-named (tooLongSo start p e) = subst (λ (c : Checked). c .message .id ≡ idOf (c .message)) (sym e) (blank-named 0)

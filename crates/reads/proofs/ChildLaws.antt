@@ -1,6 +1,6 @@
 -- The search for a child of a name: what is left of the content, turn by turn; and what is noted from searches.
 use mathlib.Core.Path.{_≡_, refl, sym, ap, subst, _∙_}
-use mathlib.Core.List.{List, [], _∷_, _++_, append-assoc}
+use mathlib.Core.List.{[], _∷_, _++_, append-assoc}
 use mathlib.Core.Bool.{Bool, true, false, _||_, cond}
 use Prim.Native.Nat.{ℕ, _+_, _-_, _*_, _≤_, _<_}
 use native.Mathlib.Omega.{arith}
@@ -15,9 +15,10 @@ use Rattle.grammar.specs.Tree.{Forest}
 use Rattle.grammar.specs.Attribute.{spellAttributes}
 use Rattle.grammar.specs.Filler.{Filler, spellFiller}
 use Rattle.grammar.specs.Element.{Element, empty, full, Content, bare, child, spellEnd, spellElement, spellContent, GoodElement, good-full, GoodContent, good-child, readElement, readContent}
-use Rattle.reader.specs.Outline.{tagIn, insideFrom}
+use Rattle.grammar.specs.Places.{tagIn, insideFrom}
 use Rattle.reader.specs.Child.{noChild, Next, Stands, NextChild}
-use Rattle.reader.specs.Parts.{Parts, child-parts, next-one, InContent, in-content, content-deeper}
+use Rattle.model.specs.Standing.{Parts}
+use Rattle.reader.specs.Parts.{child-parts, next-one, InContent, in-content, content-deeper}
 use Rattle.reader.specs.declared.answer.Child.{Child}
 use Rattle.table.specs.Says.{present, noted, without, nameOf, childrenOf, hasChild, notes, featured}
 use Rattle.lane.specs.Names.{ServiceDescription}
@@ -27,7 +28,6 @@ use Rattle.rows.proofs.CodingLaws.{length-names}
 use Rattle.reads.specs.Children.{Holds, holds-none, holds, unnamedChild, First, no-child, first-child, FirstIn}
 use Rattle.reads.specs.Kept.{asCell, lacking, featuresOf, NotesIn, SUPPORTED, Carried, Supports, Sorts}
 use Rattle.reads.specs.declared.features.Named.{Named}
-use Rattle.reads.specs.declared.features.Sort.{Sort}
 use Rattle.reads.specs.declared.tried.Tried.{Tried}
 
 -- a found child stands inside the bytes, and the search goes on behind it

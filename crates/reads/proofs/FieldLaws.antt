@@ -16,7 +16,7 @@ use Rattle.table.specs.Table.{Form}
 use Rattle.table.specs.Says.{Result, judged, without, given}
 use Rattle.message.specs.Handed.{ReadsAt}
 use Rattle.reads.specs.Held.{Held, pairs, place, Found, Tries}
-use Rattle.reads.proofs.PlaceLaws.{reads-at, has-worth, missing-at}
+use Rattle.message.proofs.PlaceLaws.{reads-at, has-worth, missing-at}
 
 -- at the place p stands a raw value, and what it reads as is the value of the name
 pub record Stands (s name : Bytes) (l : List Pair) (p : Span) : Type 0 where

@@ -5,19 +5,20 @@ use mathlib.Core.Bool.{Bool, true, false, _||_, not, cond}
 use Prim.Native.Nat.{ℕ, zero, suc, _+_, _-_, _*_, _≤_, _<_}
 use native.Mathlib.Omega.{arith}
 use native.Mathlib.Nat.{add-zero}
-use lib.ListN.{length, length-append, length-drop, take, drop, getD}
-use Prim.Native.Char.{code}
+use lib.ListN.{length, take, drop, getD}
 use Rattle.exact.specs.Chain.{clash}
 use Rattle.grammar.specs.Bytes.{Bytes, same, among}
 use Rattle.grammar.specs.Value.{spellValue}
-use Rattle.grammar.specs.Attribute.{Attribute, spellAttribute, spellAttributes, GoodEach, good-each, fresh}
+use Rattle.grammar.specs.Attribute.{Attribute, spellAttributes, GoodEach, good-each, fresh}
 use borrow.Author.Tests.{not-true}
 use Rattle.model.specs.Tests.{and-left, and-right, same-true}
-use Rattle.tags.specs.Places.{nameAt, nameEnd, valueAt, valueEnd, places}
-use Rattle.reader.specs.Parts.{AttributeAt, attribute-stands}
+use Rattle.grammar.specs.Places.{nameAt, nameEnd, valueAt, valueEnd}
+use Rattle.tags.specs.Places.{places}
+use Rattle.model.specs.Standing.{AttributeAt, attribute-stands}
 use Rattle.value.specs.declared.text.Words.{Words}
 use Rattle.value.specs.declared.text.Words.the-variants.{Absent, Present}
 use Rattle.message.specs.Checked.{placeOf}
+use Rattle.message.proofs.PlaceLaws.{attribute-in}
 use Rattle.reads.specs.Held.{Held, Called, Lies, place}
 
 -- from row i on the table holds the attributes that are left, which stand from `at` on, counted from `base`
@@ -80,21 +81,6 @@ four-of t n a b c d l e =
   where
     at-next : (k : ℕ) {l : List ℕ} → drop (n + k + 1) t ≡ l → drop (n + (k + 1)) t ≡ l
     at-next k {l} e = let q : n + k + 1 ≡ n + (k + 1) = omega arith in subst (λ (m : ℕ). drop m t ≡ l) q e
-
--- an attribute that stands there has room for its value and a quote
-pub attribute-in : (s : Bytes) (at : ℕ) (a : Attribute) (l : List Attribute) (y : Bytes) → drop at s ≡ spellAttributes (a ∷ l) ++ y → valueEnd at a < length s
-attribute-in s at a l y e =
-    let v = spellValue (a .value) in
-    let tail = spellAttributes l ++ y in
-    let k : length (drop at s) ≡ length (spellAttribute a ++ spellAttributes l) + length y = ap length e ∙ length-append (spellAttribute a ++ spellAttributes l) y in
-    let m : length (spellAttribute a ++ spellAttributes l) ≡ length (spellAttribute a) + length (spellAttributes l) = length-append (spellAttribute a) (spellAttributes l) in
-    let n₁ : length (spellAttribute a) ≡ length (a .before) + length (a .name ++ (a .mid ++ code "=" ∷ (a .after ++ a .quote ∷ (v ++ a .quote ∷ [])))) = length-append (a .before) _ in
-    let n₂ : length (a .name ++ (a .mid ++ code "=" ∷ (a .after ++ a .quote ∷ (v ++ a .quote ∷ [])))) ≡ length (a .name) + length (a .mid ++ code "=" ∷ (a .after ++ a .quote ∷ (v ++ a .quote ∷ []))) = length-append (a .name) _ in
-    let n₃ : length (a .mid ++ code "=" ∷ (a .after ++ a .quote ∷ (v ++ a .quote ∷ []))) ≡ length (a .mid) + length (code "=" ∷ (a .after ++ a .quote ∷ (v ++ a .quote ∷ []))) = length-append (a .mid) _ in
-    let n₄ : length (a .after ++ a .quote ∷ (v ++ a .quote ∷ [])) ≡ length (a .after) + length (a .quote ∷ (v ++ a .quote ∷ [])) = length-append (a .after) _ in
-    let n₅ : length (v ++ a .quote ∷ []) ≡ length v + 1 = length-append v (a .quote ∷ []) in
-    let z = length-drop at s in
-    omega arith
 
 module _ (s : Bytes) (base : ℕ) (table : List ℕ) (count i : ℕ) (name : Bytes) (whole : Words) (rel at : ℕ) (a : Attribute) (l : List Attribute) (after : Bytes) (rest : List ℕ)
     (good : GoodEach l)

@@ -5,7 +5,6 @@ use mathlib.Core.Bool.{Bool, true, false, _&&_, not, cond}
 use Prim.Native.Nat.{ℕ, zero, suc, _+_, _-_, _*_, _≤_}
 use native.Mathlib.Omega.{arith}
 use lib.ListN.{length, take, drop, getD}
-use lib.Dec.{leb}
 use Rattle.exact.specs.Chain.{clash}
 use Rattle.grammar.specs.Bytes.{Bytes}
 use Rattle.grammar.specs.Tree.{Tree}
@@ -31,11 +30,11 @@ use Rattle.message.specs.declared.values.Measure.the-variants.{Absent as NoMeas
 use Rattle.reads.specs.Kept.{keptOf, triedBy, keptIn}
 use Rattle.reads.specs.Ids.{IdOf, IdAt, bared, taken}
 use Rattle.reads.proofs.FindLaws.{first-of}
-use Rattle.reads.proofs.PlaceLaws.{has-worth}
+use Rattle.message.proofs.PlaceLaws.{has-worth}
 use Rattle.reads.proofs.RowLaws.{plain, tried-given}
 use Rattle.message.proofs.GuidLaws.{both, noGuid, oneGuid, one-guid, no-guid-cell, guid-cell}
 use Rattle.reads.proofs.LoopLaws.{three, next-cell}
-use Rattle.reads.proofs.OutlineLaws.{there-reads, absent-worth}
+use Rattle.message.proofs.HandedLaws.{there-reads, absent-worth}
 
 -- the field of a cell
 of-words : (w : Words) → wordsBy (getD (wordsCell w) 0 0) (getD (wordsCell w) 1 0) (getD (wordsCell w) 2 0) ≡ w

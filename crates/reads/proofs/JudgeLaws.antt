@@ -18,9 +18,9 @@ use Rattle.number.specs.declared.positive.NumberRead.{NumberRead}
 use Rattle.value.specs.Loose.{Loose}
 use Rattle.value.specs.Numbers.{Reads, read, unread, IntReads, NumberReads, GuidReads, VersionReads}
 use Rattle.value.specs.Size.{reads-no-longer, reads-some}
-use Rattle.value.specs.Decoded.{LengthCase, LengthSays}
-use Rattle.value.specs.declared.decode.Length.{Length}
-use Rattle.value.specs.declared.decode.Length.the-variants.{Is as IsLong, Not}
+use Rattle.decodes.specs.Decoded.{LengthCase, LengthSays}
+use Rattle.decodes.specs.declared.decode.Length.{Length}
+use Rattle.decodes.specs.declared.decode.Length.the-variants.{Is as IsLong, Not}
 use Rattle.value.proofs.Theorems.{loose-one}
 use Rattle.table.specs.Table.{words, someWords, whole, guid, version, positive}
 use Rattle.table.specs.Says.{Value, Result, present, refused, anInt, aText, anId, millionths, TOO_LONG, limited, when, ranged, measured, judged, refusalIn}

@@ -1,5 +1,4 @@
 pub mod FindLaws
-pub mod PlaceLaws
 pub mod FieldLaws
 pub mod JudgeLaws
 pub mod ChildLaws
@@ -11,4 +10,3 @@ pub mod OutlineLaws
 pub mod WholeLaws
 pub mod HandLaws
 pub mod CheckLaws
-pub mod Theorems

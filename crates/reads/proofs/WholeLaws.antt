@@ -7,7 +7,7 @@ use Rattle.grammar.specs.Bytes.{Bytes}
 use Rattle.grammar.specs.Tree.{Tree, tree}
 use Rattle.grammar.specs.Element.{readAttributes, readElement}
 use Rattle.grammar.specs.Message.{readLayout}
-use Rattle.reader.specs.Outline.{tagIn}
+use Rattle.grammar.specs.Places.{tagIn}
 use Rattle.reader.specs.Answer.{Accepted, Outlined}
 use Rattle.reader.specs.declared.answer.Answer.the-variants.{Ends, More, Malformed, TooLong}
 use Rattle.reader.specs.declared.answer.Outline.{Outline}
@@ -18,11 +18,12 @@ use Rattle.table.specs.Says.{refusalOf, childOf, childrenOf, nameOf, saidOf}
 use Rattle.message.specs.Checked.{placeOf, placesIn}
 use Rattle.message.specs.Cells.{cellsOf}
 use Rattle.reads.specs.Held.{pairs, place}
-use Rattle.reads.specs.Kept.{keptIn, Sorted, Sorts, AllRowed}
+use Rattle.reads.specs.Kept.{keptIn, Sorts, AllRowed}
 use Rattle.reads.specs.Whole.{outcomeOf, cellsIn, CellsChecked, ends, more, malformed, too-long}
 use Rattle.reads.specs.declared.features.Sort.{Sort}
 use Rattle.reads.specs.declared.whole.Outcome.{Outcome}
-use Rattle.reads.proofs.OutlineLaws.{child, parts, accepted, answers, accepted-held, accepted-holds, read-inner, tree-of, name-of}
+use Rattle.reads.proofs.OutlineLaws.{child, parts, accepted, answers, accepted-held, accepted-holds}
+use Rattle.message.proofs.HandedLaws.{read-inner, tree-of, name-of}
 
 module _ {s : Bytes} {start end from to count inside : ℕ} {old new : List ℕ} (a : Accepted s start end from to count inside old new) (whole : length old ≡ 128) where
   -- what holds of the element that the table describes holds of the reading's

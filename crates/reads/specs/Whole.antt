@@ -1,4 +1,4 @@
--- What `check_cells` and `check_into` promise.
+-- What `check_cells` promises.
 use mathlib.Core.Path.{_≡_}
 use mathlib.Core.List.{List, _++_}
 use Prim.Native.Nat.{ℕ, _-_, _*_}
@@ -11,12 +11,9 @@ use Rattle.reader.specs.Answer.{Outlined}
 use Rattle.reader.specs.declared.answer.Outline.{Outline}
 use Rattle.table.specs.Table.{rowsOf}
 use Rattle.table.specs.Says.{childOf, saidOf}
-use Rattle.message.specs.Checked.{placesIn, Checks}
-use Rattle.message.specs.Cells.{NUMBERS, cellsOf}
-use Rattle.message.specs.Messages.{messageBy}
-use Rattle.message.specs.declared.checking.Checked.{Checked}
+use Rattle.message.specs.Checked.{placesIn}
+use Rattle.message.specs.Cells.{cellsOf}
 use Rattle.reads.specs.Kept.{keptIn}
-use Rattle.reads.specs.declared.checking.Found.{Found}
 use Rattle.reads.specs.declared.whole.Outcome.{Outcome}
 
 -- an outline of s, and the table that it was made with
@@ -37,12 +34,3 @@ pub data CellsChecked (s : Bytes) (before after : List ℕ) (r : Outcome) : Type
   more : (start : ℕ) → Answers s (moreFrom start) → r ≡ outcomeOf 1 0 start 0 0 → after ≡ before → CellsChecked s before after r
   malformed : (start place : ℕ) → Answers s (malformedAt start place) → r ≡ outcomeOf 2 0 start 0 place → after ≡ before → CellsChecked s before after r
   too-long : (start : ℕ) → Answers s (tooLongFrom start) → r ≡ outcomeOf 3 0 start 0 0 → after ≡ before → CellsChecked s before after r
-
--- what `check_into` found, with the message that the cells and the id are
-abbrev pub handedBy : Found → List ℕ → Checked
-handedBy r cells = record { refusal = r .refusal; start = r .start; end = r .end; place = r .place; message = messageBy (r .kind) cells (r .id) }
-
--- it is what checking hands out
-pub record ChecksInto (s : Bytes) (cells : List ℕ) (r : Found) : Type 0 where
-  pub checks : Checks s (handedBy r cells)
-  pub long : length cells ≡ NUMBERS

@@ -2,9 +2,9 @@
 ghost use mathlib.Core.Path.{_≡_};
 ghost use lib.ListN.{replicate};
 ghost use Rattle.message.specs.Cells.{NUMBERS as MANY};
-ghost use Rattle.message.specs.Checked.{Checks};
+ghost use Rattle.message.specs.Checked.{Checks, ChecksInto};
 ghost use Rattle.reads.specs.Kept.{Sorts};
-ghost use Rattle.reads.specs.Whole.{Sketched, ChecksInto};
+ghost use Rattle.reads.specs.Whole.{Sketched};
 use crate::features::Sort;
 use crate::features::sort_of;
 use crate::ids::take_id;
@@ -12,20 +12,11 @@ use crate::whole::Outcome;
 use crate::whole::tell;
 use cells::clear;
 use message::Checked;
+use message::Found;
 use message::Message;
 use message::cells::NUMBERS;
 use reader::answer::Outline;
 use tags::attributes::PLACES;
-
-/// What stands behind the glue in front of an input, as message::Checked says; what a message says stands in cells, but for its BoardId.
-pub struct Found {
-    pub refusal: u8,
-    pub kind: u8,
-    pub start: usize,
-    pub end: usize,
-    pub place: usize,
-    pub id: [u8; 36],
-}
 
 fn told(o: Outcome, id: [u8; 36]) -> Found
     ensures { λ r. ⌜ r ≡ record { refusal = o .refusal; kind = o .kind; start = o .start; end = o .end; place = o .place; id = id } ⌝ }

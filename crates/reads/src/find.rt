@@ -1,5 +1,4 @@
 // An attribute by its name.
-ghost use mathlib.Core.Path.{_≡_};
 ghost use Prim.Native.Nat.{_<_};
 ghost use Rattle.reads.specs.Held.{Held, Found, Called, Lies};
 use rows::same::same;

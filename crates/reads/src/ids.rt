@@ -57,7 +57,7 @@ fn id_of(raw: &[u8]) -> [u8; 36]
     if is_clear(raw) {
         return copied(raw);
     }
-    let g = value::id_at(raw);
+    let g = decodes::id_at(raw);
     g.bytes
 }
 

@@ -7,9 +7,9 @@ ghost use Rattle.reads.specs.Kept.{intOf, sizeOf, Judges, RowJudges};
 use crate::tried::Tried;
 use crate::tried::number;
 use crate::tried::span;
+use decodes::Length;
 use number::WholeRead;
 use rows::data::Row;
-use value::Length;
 
 /// A text of at most so many bytes. What a value reads as is no longer than the value.
 pub fn text(raw: &[u8], limit: usize) -> u8
@@ -18,7 +18,7 @@ pub fn text(raw: &[u8], limit: usize) -> u8
     if raw.len() <= limit {
         return 0;
     }
-    let l = value::text_len(raw);
+    let l = decodes::text_len(raw);
     let Length::Is(n) = l else {
         return 5;
     };
@@ -42,7 +42,7 @@ pub fn some_text(raw: &[u8], limit: usize) -> u8
 pub fn guid(raw: &[u8]) -> u8
     ensures { λ r. ⌜ Judges refusalIn aGuid (now (raw .entry)) r ⌝ }
 {
-    if value::guid_at(raw) {
+    if decodes::guid_at(raw) {
         return 0;
     }
     6
@@ -52,7 +52,7 @@ pub fn guid(raw: &[u8]) -> u8
 pub fn version(raw: &[u8]) -> u8
     ensures { λ r. ⌜ Judges refusalIn aVersion (now (raw .entry)) r ⌝ }
 {
-    if value::version_at(raw) {
+    if decodes::version_at(raw) {
         return 0;
     }
     6
@@ -70,7 +70,7 @@ pub fn int(raw: &[u8], lo: u64, hi: u64) -> Tried
     requires { ⌜ hi ≤ 65535 ⌝ }
     ensures { λ r. ⌜ Judges intOf (whole lo hi) (now (raw .entry)) r ⌝ }
 {
-    let w = value::int_at(raw);
+    let w = decodes::int_at(raw);
     let WholeRead::Is(minus, size) = w else {
         return bad();
     };
@@ -91,7 +91,7 @@ pub fn int(raw: &[u8], lo: u64, hi: u64) -> Tried
 pub fn size(raw: &[u8]) -> Tried
     ensures { λ r. ⌜ Judges sizeOf positive (now (raw .entry)) r ⌝ }
 {
-    let n = value::number_at(raw);
+    let n = decodes::number_at(raw);
     if n.ok {
         return Tried {
             refusal: 0,

@@ -11,9 +11,9 @@ pub mod tried;
 pub mod trying;
 mod whole;
 
-pub use checking::Found;
 pub use checking::check;
 pub use checking::check_into;
 pub use checking::check_outlined;
+pub use message::Found;
 pub use whole::Outcome;
 pub use whole::check_cells;

@@ -1,5 +1,5 @@
 -- Order 1: "Route 0 is undefined, 1 to 99 a route, 900 return, 999 manual removal, other values up to 998 reserved, 1000 and above the line's own".
-use mathlib.Core.Bool.{Bool, _&&_, cond}
+use mathlib.Core.Bool.{_&&_, cond}
 use Prim.Native.Nat.{ℕ}
 use lib.Dec.{eqb, leb}
 

@@ -1,16 +1,16 @@
 -- The table as the code has it is the table of the definitions.
 use mathlib.Core.Path.{_≡_, refl, sym, ap, subst, _∙_}
 use mathlib.Core.List.{List, [], _∷_}
-use mathlib.Core.Bool.{Bool, true, false, _&&_, _||_, not, cond}
+use mathlib.Core.Bool.{Bool, true, false, _&&_, cond}
 use Prim.Native.Nat.{ℕ, zero, suc, _+_, _-_, _*_, _/_, _%_, _≤_, _<_}
 use native.Mathlib.Omega.{arith}
 use lib.ListN.{getD, length, take, drop}
 use lib.Dec.{eqb, leb}
-use borrow.Author.Tests.{leb-true, eqb-true, eqb-false, ne-eqb, eq-eqb}
+use borrow.Author.Tests.{leb-true, eqb-true, eqb-false, ne-eqb}
 use Rattle.exact.specs.Chain.{clash}
-use Rattle.grammar.specs.Bytes.{Bytes, text, same}
+use Rattle.grammar.specs.Bytes.{Bytes, same}
 use Rattle.table.specs.Table.{Row, Entry, table, kindIn, kindOf, rowsIn, rowsOf, guidCellIn}
-use Rattle.rows.specs.Coding.{ROWS, KINDS, NO_ID, LINES, MOST, WIDTH, names, kindNames, numbers, kinds, startOf, nameAt, rowOf, codedAt, rowsFrom, Sound}
+use Rattle.rows.specs.Coding.{ROWS, KINDS, NO_ID, LINES, MOST, WIDTH, names, kindNames, numbers, kinds, startOf, rowOf, codedAt, rowsFrom, Sound}
 use Rattle.rows.specs.declared.data.Row.{Row as Coded}
 
 -- the values of a function from n - 1 down to 0: where two such lists are the same, which antt computes, so are the functions below n

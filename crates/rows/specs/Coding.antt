@@ -1,11 +1,11 @@
 -- The attribute table as the code has it: names on lines of 24 bytes, and a number for each row.
 use mathlib.Core.Path.{_≡_}
 use mathlib.Core.List.{List, [], _∷_, _++_}
-use mathlib.Core.Bool.{Bool, true, false, _&&_, not, cond}
+use mathlib.Core.Bool.{cond}
 use Prim.Native.Nat.{ℕ, zero, suc, _+_, _-_, _*_, _/_, _%_, _≤_}
 use Prim.Native.Char.{code}
 use lib.ListN.{take, drop, getD, length, replicate}
-use lib.Dec.{eqb, leb}
+use lib.Dec.{eqb}
 use Rattle.grammar.specs.Bytes.{Bytes, text, same, among}
 use Rattle.table.specs.Table.{Row, Entry, Form, words, someWords, whole, guid, version, positive, features, Need, required, optional, requiredWith, ignored, table, rowsOf, guidCellIn}
 use Rattle.rows.specs.declared.data.Row.{Row as Coded}

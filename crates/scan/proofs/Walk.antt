@@ -21,7 +21,6 @@ use Rattle.grammar.specs.Glue.{isGlue}
 use Rattle.grammar.specs.Name.{nameStart, nameByte, shaped}
 use Rattle.grammar.specs.Reference.{lt}
 use Rattle.scan.specs.Pieces.{Got, GotTok, Walked, Skipped, byteP, wordP, glueTok, nameTok}
-use Rattle.scan.specs.declared.Step.{Step}
 use Rattle.scan.specs.declared.Step.the-variants.{Done, Open, Bad}
 
 module _ (pre ok : Bytes → Bool) (s : Bytes) (at : ℕ) where

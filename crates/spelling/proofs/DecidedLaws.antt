@@ -1,19 +1,30 @@
 -- The test `isText` decides which bytes are a text.
 use mathlib.Core.Path.{_≡_, refl, sym, ap, _∙_}
-use mathlib.Core.List.{[], _∷_}
+use mathlib.Core.List.{List, [], _∷_}
 use mathlib.Core.Bool.{Bool, true, false}
 use Prim.Native.Nat.{ℕ, zero, suc, _+_, _≤_, _<_}
 use native.Mathlib.Omega.{arith}
 use lib.ListN.{length, length-append}
-use Rattle.exact.specs.Exact.{Out, done, more, bad, sound, done≢more, done≢bad}
+use Rattle.exact.specs.Exact.{Out, done, more, bad, Exact, sound, done≢more, done≢bad}
 use Rattle.exact.specs.Chain.{clash}
-use Rattle.grammar.specs.Bytes.{Bytes, every}
-use Rattle.grammar.specs.Character.{isChar}
-use Rattle.model.specs.Characters.{IsRaw, charP}
-use Rattle.model.specs.Tests.{and-both}
+use Rattle.grammar.specs.Bytes.{Bytes, within, every}
+use Rattle.grammar.specs.Character.{isChar, utf8}
+use Rattle.model.specs.Characters.{IsRaw, plainByte, charP, char-exact}
+use Rattle.model.specs.Tests.{and-left, and-right, and-both}
 use Rattle.spelling.specs.Characters.{spell, IsText, TextSays, noBan}
 use Rattle.spelling.specs.Decided.{onward, textFrom, isText}
-use Rattle.spelling.proofs.TextLaws.{character-exact, first}
+
+pub character-exact : Exact (IsRaw noBan) (charP noBan)
+unfolding plainByte isChar within
+character-exact = char-exact noBan (λ c h. refl) 65 refl
+
+-- a text with a byte begins with a character
+pub first : {w : Bytes} → 0 < length w → IsText w → (c : ℕ) × (l : List ℕ) × (charP noBan w ≡ done c (spell l)) × (every isChar l ≡ true)
+first {w} h t = go (t .chars) (t .good) (t .spelt)
+  where
+    go : (l : List ℕ) → every isChar l ≡ true → w ≡ spell l → (c : ℕ) × (l : List ℕ) × (charP noBan w ≡ done c (spell l)) × (every isChar l ≡ true)
+    go [] g e = absurd (let z = ap length e in omega arith)
+    go (c ∷ l) g e = (c, l, ap (charP noBan) e ∙ character-exact .comp (utf8 c) c (spell l) (record { char = and-left (isChar c) (every isChar l) g; free = refl; spelt = refl }), and-right (isChar c) (every isChar l) g)
 
 -- nothing is a text
 empty-text : TextSays [] true

@@ -4,9 +4,9 @@ use mathlib.Core.List.{[], _∷_, _++_, append-assoc, append-nil}
 use mathlib.Core.Bool.{true, false}
 use Prim.Native.Nat.{ℕ, zero, suc, _+_, _-_, _*_, _/_, _%_, _^_, _≤_, _<_, min, max}
 use Prim.Native.Char.{code}
-use native.Mathlib.Nat.{sub-zero, suc-sub-suc, pow-succ'}
+use native.Mathlib.Nat.{sub-zero, suc-sub-suc}
 use native.Mathlib.Omega.{arith}
-use lib.ListN.{length, length-append, length-replicate, replicate}
+use lib.ListN.{length, length-append, length-replicate}
 use borrow.Author.Tests.{eqb-true, ne-eqb, lt-ltb, le-leb}
 use Rattle.exact.specs.Chain.{clash}
 use Rattle.grammar.specs.Bytes.{within, every}
@@ -14,12 +14,10 @@ use Rattle.model.specs.Tests.{every-append}
 use Rattle.number.specs.Bytes.{Bytes, digit, zeroDigit, figure, nonEmpty, all, dropBack, keepBefore, trim, valueFrom, value, before, behind}
 use Rattle.number.specs.Positive.{BEFORE, BEHIND, number, written, short, millionths, above, decimal, unsigned, parted, powered, zeros, decimalOf, numberOf, decimalsIn, decimalsOf}
 use Rattle.number.proofs.Powers.{shift, few}
-use Rattle.numerals.proofs.NumberLaws.{digit-no-mark}
-use Rattle.numerals.proofs.DecimalLaws.{zeros-digits, both-digits}
+use Rattle.number.proofs.DigitLaws.{digit-no-mark, zeros-digits, both-digits, int-digital, int-short, length-places, places-digits, places-value}
 use Rattle.number.proofs.Tests.{cases, and-left, and-right, digit-low}
-use Rattle.printing.specs.Digits.{lastDigit, printInt, places}
+use Rattle.number.specs.Digits.{lastDigit, printInt, places}
 use Rattle.spelling.specs.Written.{behindPoint, mattering, matter, padded, printPart, printDecimal}
-use Rattle.printing.proofs.PrintLaws.{int-digital, int-short, length-places, places-digits, places-value}
 use Rattle.spelling.proofs.MarkLaws.{mark, digits-marks, marks-trim}
 
 -- digits without the zeros at their back

@@ -12,8 +12,8 @@ use Rattle.number.specs.Positive.{BEHIND, number, numberOf, decimalsOf}
 use Rattle.number.specs.Guid.{guidOf}
 use Rattle.number.specs.Version.{versionOf}
 use Rattle.value.specs.Text.{Text}
-use Rattle.printing.specs.Digits.{printInt, places}
-use Rattle.printing.proofs.PrintLaws.{print-small, print-more, int-digital, int-short}
+use Rattle.number.specs.Digits.{printInt, places}
+use Rattle.number.proofs.DigitLaws.{print-small, print-more, int-digital, int-short}
 use Rattle.spelling.specs.Written.{escape, behindPoint, matter, printDecimal}
 use Rattle.spelling.specs.Characters.{IsText, TextSays}
 use Rattle.spelling.specs.Quoted.{InQuotes, AsIs}

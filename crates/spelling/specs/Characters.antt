@@ -2,8 +2,7 @@
 use mathlib.Core.Path.{_≡_}
 use mathlib.Core.List.{List, [], _∷_, _++_}
 use mathlib.Core.Bool.{Bool, true, false}
-use Prim.Native.Nat.{ℕ, _≤_}
-use lib.ListN.{length, drop}
+use Prim.Native.Nat.{ℕ}
 use Rattle.grammar.specs.Bytes.{Bytes, every}
 use Rattle.grammar.specs.Character.{isChar, utf8}
 
@@ -26,15 +25,3 @@ pub record TextSays (v : Bytes) (r : Bool) : Type 0 where
 -- no character is banned from a text
 abbrev pub noBan : ℕ → Bool
 noBan c = false
-
--- v is a text if and only if what is left of it at i is one
-pub record Along (v : Bytes) (i : ℕ) : Type 0 where
-  pub upto : i ≤ length v
-  pub to : IsText v → IsText (drop i v)
-  pub from : IsText (drop i v) → IsText v
-
--- whole characters stand from i up to j
-pub record Passes (v : Bytes) (i j : ℕ) : Type 0 where
-  pub from : i ≤ j
-  pub upto : j ≤ length v
-  pub along : Along v i → Along v j

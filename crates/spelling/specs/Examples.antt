@@ -7,7 +7,7 @@ use Rattle.grammar.specs.Character.{isChar, utf8}
 use Rattle.model.specs.Characters.{second3, third3, second4, plainByte, charP}
 use Rattle.number.specs.Bytes.{dropBack, keepBefore}
 use Rattle.number.specs.Examples.{bytesOf}
-use Rattle.printing.specs.Digits.{digitsOf, printInt, places}
+use Rattle.number.specs.Digits.{digitsOf, printInt, places}
 use Rattle.spelling.specs.Written.{escapeByte, escape, behindPoint, printDecimal}
 use Rattle.spelling.specs.Characters.{spell}
 use Rattle.spelling.specs.Decided.{textFrom, isText}

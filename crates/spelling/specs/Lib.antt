@@ -1,6 +1,5 @@
 pub mod Written
-pub mod Runs
 pub mod Characters
 pub mod Quoted
-pub mod Examples
 pub mod Decided
+pub mod Examples

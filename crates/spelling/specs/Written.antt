@@ -6,7 +6,7 @@ use Prim.Native.Char.{code}
 use lib.Dec.{eqb}
 use lib.ListN.{length, replicate}
 use Rattle.grammar.specs.Bytes.{Bytes, text}
-use Rattle.printing.specs.Digits.{printInt, places}
+use Rattle.number.specs.Digits.{printInt, places}
 use Rattle.number.specs.Bytes.{zeroDigit, dropBack}
 use Rattle.number.specs.Positive.{BEHIND}
 

@@ -6,12 +6,9 @@ use native.Mathlib.Omega.{arith}
 use lib.ListN.{length, length-append, take, drop, set}
 use lib.Seq.{sets-eq, take-at, drop-append-add, drop-drop}
 use Rattle.grammar.specs.Bytes.{Bytes}
-use Rattle.value.specs.declared.text.Words.the-variants.{Absent as NoWords, Present as IsWords}
-use Rattle.message.specs.Fields.{Field, none, aWords, aWhole, aMeasure, aGuid, aFeatures}
+use Rattle.message.specs.Fields.{Field}
 use Rattle.message.specs.Cells.{cellOf, cellsOf}
 use Rattle.message.specs.Messages.{withZeros, idAmong, messageFrom}
-use Rattle.message.specs.declared.values.Whole.the-variants.{Absent as NoWhole, Present as IsWhole}
-use Rattle.message.specs.declared.values.Measure.the-variants.{Absent as NoMeasure, Present as IsMeasure}
 use Rattle.message.specs.declared.cells.Message.{Message}
 use Rattle.message.proofs.BackLaws.{cell-long}
 use Rattle.structs.specs.Celled.{zeros, placed, laid, allLaid}

@@ -4,7 +4,6 @@ use mathlib.Core.List.{List, [], _∷_}
 use mathlib.Core.Bool.{true, false}
 use Prim.Native.Nat.{ℕ, zero, suc}
 use Prim.Native.String.{String}
-use lib.ListN.{length}
 use Rattle.number.specs.Bytes.{blank, digit, hex, nonEmpty, all, dropFront, keepBefore, dropBack, trim, valueFrom, before, behind, pointed}
 use Rattle.number.specs.Whole.{sized, signed, intOf}
 use Rattle.number.specs.Positive.{written, short, above, millionths as decimals, decimal, unsigned, parted, numberOf, decimalsOf}
@@ -13,7 +12,7 @@ use Rattle.number.specs.Version.{oneToThree, versionOf}
 use Rattle.grammar.specs.Bytes.{Bytes, text, within}
 use Rattle.grammar.specs.Tree.{Pair, Tree, tree, Forest, no-trees, tree-then}
 use Rattle.table.specs.Table.{words, someWords, whole, guid, version, positive, Entry, entry, _is_, _opt_, ifThere, table}
-use Rattle.table.specs.Says.{Result, absent, present, refused, aText, anInt, millionths, anId, noted, judged, tried, refusalOf, valuesOf, Said, saidIn, saidOf}
+use Rattle.table.specs.Says.{Result, absent, present, refused, aText, anInt, millionths, anId, noted, judged, tried, refusalOf, valuesOf, saidIn, saidOf}
 
 infix 70 _:=_
 abbrev _:=_ : String → String → Pair

@@ -2,13 +2,13 @@
 use mathlib.Core.Path.{_≡_, refl, sym, ap, subst, _∙_}
 use mathlib.Core.List.{List, [], _∷_, _++_, append-assoc}
 use mathlib.Core.Bool.{Bool, true, false}
-use Prim.Native.Nat.{ℕ, suc, _+_, _-_, _*_, _≤_, _<_}
+use Prim.Native.Nat.{ℕ, suc, _+_, _-_, _≤_, _<_}
 use native.Mathlib.Omega.{arith}
 use native.Mathlib.Numerals.{add-one}
 use lib.ListN.{length, length-append, take, drop, getD, length-take, length-drop}
 use lib.Seq.{drop-cons, getD-drop, getD-append-seam}
-use lib.Dec.{eqb, leb}
-use borrow.Author.Tests.{ne-eqb, eqb-true, leb-true, leb-false}
+use lib.Dec.{eqb}
+use borrow.Author.Tests.{ne-eqb, eqb-true}
 use Rattle.scan.specs.Pieces.{Got, GotTok, byteP, wordP, glueTok, chained}
 use Rattle.scan.specs.Unfold.{then-and, and-ext, and-and, glue-bind, on-bind}
 use Rattle.scan.proofs.Chain.{last, then-done, then-more, then-bad, Fails, never, tok, pass, known}
@@ -20,7 +20,7 @@ use Rattle.exact.specs.Exact.{Out, done, bad, Seen, isDone, isMore, isBad, done
 use Rattle.exact.specs.Chain.{retP, andThen, clash}
 use Rattle.exact.specs.Token.{tokenP}
 use Rattle.exact.specs.Byte.{pick, onP, litP, choiceP}
-use Rattle.grammar.specs.Bytes.{Bytes, text, within, digit, every, fits}
+use Rattle.grammar.specs.Bytes.{Bytes, text, within, digit, every}
 use Rattle.grammar.specs.Glue.{isGlue}
 use Rattle.grammar.specs.Name.{letter, nameStart, nameByte}
 use Rattle.grammar.specs.Value.{Item, spellValue, isQuote, GoodValue}

@@ -2,7 +2,7 @@
 use mathlib.Core.Path.{_≡_, refl, sym, ap, _∙_}
 use mathlib.Core.List.{List, [], _∷_, _++_, append-assoc, append-nil}
 use mathlib.Core.Bool.{Bool, true, false, _&&_}
-use Prim.Native.Nat.{ℕ, zero, suc, _+_, _-_, _*_, _≤_, _<_}
+use Prim.Native.Nat.{ℕ, suc, _+_, _-_, _*_, _≤_, _<_}
 use native.Mathlib.Omega.{arith}
 use native.Mathlib.Numerals.{add-one}
 use lib.ListN.{length, length-append, take, drop, getD, length-take, length-drop}
@@ -19,13 +19,14 @@ use Rattle.exact.specs.Exact.{Out}
 use Rattle.exact.specs.Chain.{ifP}
 use Rattle.exact.specs.Byte.{pick, starts, choiceP}
 use Rattle.exact.specs.Loop.{onward, loopP}
-use Rattle.grammar.specs.Bytes.{Bytes, nonEmpty, fits}
+use Rattle.grammar.specs.Bytes.{Bytes, nonEmpty}
 use Rattle.grammar.specs.Limits.{ATTRIBUTES}
 use Rattle.grammar.specs.Name.{nameStart}
 use Rattle.grammar.specs.Attribute.{Attribute, spellAttributes}
-use Rattle.tags.specs.Places.{nameAt, nameEnd, valueAt, valueEnd, places, stored}
-use Rattle.tags.specs.Heads.{Lent, Noted, HeadCase, HeadSays}
-use Rattle.tags.specs.Names.{One, Rows, rows-none, rows-more, Marked, Ready}
+use Rattle.grammar.specs.Places.{nameAt, nameEnd, valueAt, valueEnd}
+use Rattle.tags.specs.Places.{places, stored}
+use Rattle.tags.specs.Heads.{Lent, HeadCase, HeadSays}
+use Rattle.tags.specs.Names.{Rows, rows-none, rows-more, Marked, Ready}
 use Rattle.tags.specs.Inner.{AttributeTo, AttributeSays, PutRow, failedTag, EndCase, EndSays}
 use Rattle.tags.proofs.MarkLaws.{marked-none}
 use Rattle.tags.proofs.AttributeLaws.{glue-read}

@@ -1,7 +1,7 @@
 -- The steps of a name that is not among given ones.
 use mathlib.Core.Path.{_≡_, refl, sym, ap, subst, _∙_}
 use mathlib.Core.List.{List, [], _∷_, _++_, append-assoc, append-nil}
-use mathlib.Core.Logic.{_⊎_, inl, inr}
+use mathlib.Core.Logic.{inl, inr}
 use mathlib.Core.Bool.{Bool, true, false, _&&_, _||_}
 use Prim.Native.Nat.{ℕ, zero, suc, _+_, _-_, _≤_, _<_}
 use native.Mathlib.Omega.{arith}
@@ -23,7 +23,6 @@ use Rattle.grammar.specs.Glue.{isGlue}
 use Rattle.grammar.specs.Name.{letter, nameStart, nameByte, shaped}
 use Rattle.tags.specs.Names.{Part, Run, Named, Marked, Ready, Meets, NameTo, Fresh, FreshSays}
 use Rattle.tags.proofs.CompareLaws.{part-at, every-at}
-use Rattle.scan.specs.declared.Step.{Step}
 use Rattle.scan.specs.declared.Step.the-variants.{Done, Open, Bad}
 
 shape-grow : (n : Bytes) (b : ℕ) → 0 < length n → shaped n ≡ true → nameByte b ≡ true → shaped (n ++ b ∷ []) ≡ true

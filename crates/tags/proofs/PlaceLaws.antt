@@ -7,7 +7,8 @@ use lib.ListN.{length, length-append, drop, length-drop, set, length-set}
 use lib.Seq.{set-at, drop-drop}
 use Rattle.model.specs.References.{later}
 use Rattle.grammar.specs.Attribute.{Attribute, spellAttribute, spellAttributes}
-use Rattle.tags.specs.Places.{nameAt, nameEnd, valueAt, valueEnd, places, stored}
+use Rattle.grammar.specs.Places.{nameAt, nameEnd, valueAt, valueEnd}
+use Rattle.tags.specs.Places.{places, stored}
 
 -- a row stored where a table begins to be old
 stored-here : (p r : List ℕ) (n a b c d : ℕ) → length p ≡ 4 * n → 4 ≤ length r → stored (p ++ r) n a b c d ≡ p ++ a ∷ b ∷ c ∷ d ∷ drop 4 r

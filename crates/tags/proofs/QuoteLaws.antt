@@ -7,11 +7,11 @@ use Prim.Native.Nat.{ℕ, zero, suc, _+_, _/_, _%_, _≤_, _<_}
 use lib.ListN.{length, getD}
 use native.Mathlib.Omega.{arith}
 use lib.Dec.{T, eqb, leb}
-use borrow.Author.Tests.{eqb-true, eqb-false, eq-eqb, ne-eqb, leb-true, leb-false}
+use borrow.Author.Tests.{eqb-false, eq-eqb, ne-eqb, leb-true}
 use Rattle.grammar.specs.Bytes.{Bytes, within, digit, every}
 use Rattle.grammar.specs.Character.{utf8}
-use Rattle.grammar.specs.Reference.{Reference, Named, named, amp, lt, gt, quot, apos, decimal, hexadecimal, spellReference, hexDigit, Digits, GoodReference, good-named, good-decimal, good-hexadecimal}
-use Rattle.grammar.specs.Value.{Item, raw, ref, spellItem, spellValue, isQuote, banned, GoodItem, good-raw, good-ref, GoodValue, good-last, good-item}
+use Rattle.grammar.specs.Reference.{Reference, Named, named, amp, lt, gt, quot, apos, spellReference, hexDigit, GoodReference, good-named, good-decimal, good-hexadecimal}
+use Rattle.grammar.specs.Value.{Item, spellItem, spellValue, isQuote, banned, GoodItem, good-raw, good-ref, GoodValue, good-last, good-item}
 use Rattle.model.specs.Values.{quote-is}
 use Rattle.model.specs.Tests.{or-cases, or-right, and-left}
 

@@ -1,18 +1,18 @@
 -- No second answer meets the promise of `head`: the tag, and of a tag that is read the whole table, if one is lent, are determined.
 use mathlib.Core.Path.{_≡_, refl, sym, ap, _∙_}
 use mathlib.Core.List.{List, _++_}
-use mathlib.Core.Bool.{Bool, false}
+use mathlib.Core.Bool.{Bool}
 use Prim.Native.Nat.{ℕ, _*_}
 use native.Mathlib.Omega.{arith}
 use lib.ListN.{length, drop}
-use Rattle.exact.specs.Exact.{done, more, bad, done≢more, done≢bad, more≢bad}
+use Rattle.exact.specs.Exact.{done≢more, done≢bad, more≢bad}
 use Rattle.grammar.specs.Bytes.{Bytes}
 use Rattle.scan.specs.declared.Step.{Step}
 use Rattle.scan.specs.declared.Step.the-variants.{Done, Open as Unended, Bad as Dead}
-use Rattle.model.specs.Attributes.{Head, headP}
+use Rattle.model.specs.Attributes.{Head}
 use Rattle.pieces.specs.Only.{done-only, bad-only}
 use Rattle.tags.specs.Places.{places}
-use Rattle.tags.specs.Heads.{Nothing, Lent, Noted, HeadRead, HeadBad, HeadCase, HeadSays}
+use Rattle.tags.specs.Heads.{Nothing, Lent, HeadCase, HeadSays}
 use Rattle.tags.specs.declared.attributes.Tag.{Tag}
 
 tag-only : (r r′ : Tag) → r .empty ≡ r′ .empty → r .count ≡ r′ .count → r .end ≡ r′ .end → r ≡ r′

@@ -1,14 +1,14 @@
 // Asking for a text: where it stands, decoded into the scratch buffer if it must be.
 ghost use Rattle.value.specs.Asking.{paper, Answer, TextSays};
-use value::Length;
+use decodes::Length;
+use decodes::decode::decode;
+use decodes::is_as_read;
+use decodes::is_plain;
+use decodes::is_quotable;
+use decodes::text_len;
 use value::Span;
 use value::TextAt;
 use value::Words;
-use value::decode::decode;
-use value::is_as_read;
-use value::is_plain;
-use value::is_quotable;
-use value::text_len;
 
 // The text of the bytes w, which stand at p. Plain ones, which most are, stand as they read.
 fn text_of(w: &[u8], p: Span, scratch: &mut [u8]) -> TextAt

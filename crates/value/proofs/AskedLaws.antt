@@ -15,8 +15,7 @@ use Rattle.value.specs.Asking.{paper, Answer, no-value, stands, no-room,
 use Rattle.value.specs.Only.{paper-injective}
 use Rattle.value.specs.Parts.{partOr, partAt, Lies}
 use Rattle.value.specs.declared.text.Span.{Span}
-use Rattle.value.specs.declared.text.Words.{Words}
-use Rattle.value.specs.declared.text.Words.the-variants.{Absent, Present}
+use Rattle.value.specs.declared.text.Words.the-variants.{Present}
 use Rattle.value.specs.declared.text.TextAt.{TextAt}
 use Rattle.value.specs.declared.text.TextAt.the-variants.{InMessage, InScratch}
 

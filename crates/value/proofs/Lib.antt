@@ -1,10 +1,4 @@
-pub mod UnitLaws
-pub mod Utf8Laws
-pub mod DecodeLaws
-pub mod TestLaws
 pub mod PartLaws
-pub mod TextLaws
-pub mod NumberLaws
 pub mod AskedLaws
-pub mod Theorems
 pub mod IdLaws
+pub mod Theorems

@@ -1,6 +1,6 @@
--- No second answer meets a promise: of a text asked for in one call, of the number that is said of it, of how long a value reads, and of the numbers and the id of a raw value.
+-- No second answer meets a promise: of a text asked for in one call, of the number that is said of it, and of the numbers and the id of a raw value.
 use mathlib.Core.Path.{_≡_, refl, sym, ap, subst, _∙_}
-use mathlib.Core.List.{List, [], _∷_, _++_}
+use mathlib.Core.List.{List, [], _++_}
 use mathlib.Core.Bool.{Bool}
 use Prim.Native.Nat.{ℕ}
 use native.Mathlib.Omega.{arith}
@@ -10,19 +10,16 @@ use Rattle.model.specs.Values.{itemP}
 use Rattle.exact.specs.Exact.{done}
 use Rattle.grammar.specs.Bytes.{Bytes}
 use Rattle.grammar.specs.Value.{Item, spellItem, spellValue, GoodItem, GoodValue, good-last, good-item, readValue}
-use Rattle.numerals.proofs.Theorems.{int-only, number-only, guid-only, version-only}
+use Rattle.number.proofs.Theorems.{int-only, number-only, guid-only, version-only}
 use Rattle.number.specs.declared.whole.WholeRead.{WholeRead}
 use Rattle.number.specs.declared.positive.NumberRead.{NumberRead}
 use Rattle.value.specs.Size.{some-bytes}
 use Rattle.value.specs.Loose.{item-exact, BRACKET, Loose}
-use Rattle.value.specs.Decoded.{LengthSays}
 use Rattle.value.specs.Numbers.{Reads, read, unread, IntReads, NumberReads, GuidReads, VersionReads}
 use Rattle.value.specs.Ids.{IdReads}
 use Rattle.value.specs.Parts.{partAt, Lies}
 use Rattle.value.specs.Asked.{refusalOf, Asked}
 use Rattle.value.specs.Only.{decode-only, part-only}
-use Rattle.value.specs.declared.decode.Length.{Length}
-use Rattle.value.specs.declared.decode.Length.the-variants.{Is, Not}
 use Rattle.value.specs.declared.id.Guid.{Guid}
 use Rattle.value.specs.declared.text.Words.{Words}
 use Rattle.value.specs.declared.text.TextAt.{TextAt}
@@ -62,16 +59,6 @@ items-one (good-item {i = i} {l = k} g r) (good-item {i = j} {l = m} h s) e =
 
 pub loose-one : {w : Bytes} {l l′ : List Item} → Loose w l → Loose w l′ → l ≡ l′
 loose-one x y = items-one (x .good) (y .good) (sym (x .spelt) ∙ y .spelt)
-
--- of `text_len`
-pub length-only : {w : Bytes} (r q : Length) → LengthSays w r → LengthSays w q → r ≡ q
-length-only (Is n) (Is m) x y =
-    let (l, a, e) = x .says in
-    let (k, b, f) = y .says in
-    ap Is (e ∙ ap (λ (l : List Item). length (readValue l)) (loose-one a b) ∙ sym f)
-length-only (Is n) Not x y = let (l, a, e) = x .says in absurd (y .says l a)
-length-only Not (Is m) x y = let (k, b, f) = y .says in absurd (x .says k b)
-length-only Not Not x y = refl
 
 -- of the numbers
 reads-only : {A : Type 0} {says : Bytes → A → Type 0} {none : A} {w : Bytes} {r q : A} → ((v : Bytes) → says v r → says v q → r ≡ q) → Reads says none w r → Reads says none w q → r ≡ q

@@ -1,22 +1,21 @@
 -- Worked examples: what asking for a text answers, and which part is handed out. They hold by computation.
 use mathlib.Core.Path.{_≡_, refl}
-use mathlib.Core.List.{List, [], _∷_}
-use mathlib.Core.Bool.{true, false, _||_}
-use Prim.Native.Nat.{ℕ}
+use mathlib.Core.List.{[], _∷_}
+use mathlib.Core.Bool.{true, false}
 use Prim.Native.Char.{code}
 use native.Mathlib.Omega.{arith}
 use lib.ListN.{replicate}
-use Rattle.grammar.specs.Bytes.{Bytes, text, within}
+use Rattle.grammar.specs.Bytes.{text, within}
 use Rattle.grammar.specs.Character.{isChar, utf8}
 use Rattle.grammar.specs.Reference.{amp, named, good-named}
 use Rattle.grammar.specs.Value.{raw, ref, isQuote, banned, good-raw, good-ref, good-last, good-item, readItem, readValue}
 use Rattle.number.specs.Bytes.{digit, hex}
 use Rattle.number.specs.Guid.{may, filled, guidOf}
 use Rattle.number.specs.Examples.{bytesOf}
-use Rattle.value.specs.Text.{Text, altered, asRead}
+use Rattle.value.specs.Text.{Text, altered}
 use Rattle.value.specs.Asking.{inMessage, inScratch, handed, refused, paper, stands, no-room, decoded, TextSays, absent, outside, there}
 use Rattle.value.specs.Parts.{partOr, partAt}
-use Rattle.value.specs.Ids.{noId, idRead}
+use Rattle.value.specs.Ids.{idRead}
 use Rattle.value.specs.declared.text.Words.the-variants.{Absent, Present}
 use Rattle.value.specs.declared.text.TextAt.the-variants.{InMessage, InScratch, No}
 

@@ -3,10 +3,6 @@ pub mod Quotes
 pub mod AsRead
 pub mod Loose
 pub mod Size
-pub mod Plain
-pub mod Walk
-pub mod Units
-pub mod Decoded
 pub mod Asking
 pub mod Parts
 pub mod Only

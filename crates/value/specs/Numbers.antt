@@ -2,20 +2,15 @@
 use mathlib.Core.Path.{_≡_}
 use mathlib.Core.List.{List}
 use mathlib.Core.Bool.{Bool, false}
-use Prim.Native.Nat.{_≤_}
-use lib.ListN.{length}
 use Rattle.grammar.specs.Bytes.{Bytes}
 use Rattle.grammar.specs.Value.{Item, readValue}
 use Rattle.number.specs.Whole.{intOf, capped, paper}
 use Rattle.number.specs.Positive.{noNumber, numberOf, decimalsOf, numberRead}
 use Rattle.number.specs.Guid.{guidOf}
 use Rattle.number.specs.Version.{versionOf}
-use Rattle.numerals.specs.Scan.{run, step, start}
 use Rattle.number.specs.declared.whole.WholeRead.{WholeRead}
 use Rattle.number.specs.declared.positive.NumberRead.{NumberRead}
 use Rattle.value.specs.Loose.{Loose}
-use Rattle.value.specs.declared.numbers.Walk.{Walk}
-use Rattle.value.specs.declared.numbers.Walk.the-variants.{Read, Unread}
 
 -- w is items, and r is what is said of the bytes they read as; or w is no items, and r is what is said of those
 pub data Reads {A : Type 0} (says : Bytes → A → Type 0) (none : A) (w : Bytes) (r : A) : Type 0 where
@@ -33,11 +28,3 @@ GuidReads w r = Reads (λ v q. q ≡ guidOf v) false w r
 
 abbrev pub VersionReads : Bytes → Bool → Type 0
 VersionReads w r = Reads (λ v q. q ≡ versionOf v) false w r
-
--- the scan of the bytes that w reads as, which are no more than w has; or that it is no items
-abbrev pub WalkCase : Bytes → Walk → Type 0
-WalkCase w (Read s) = (l : List Item) × Loose w l × (s ≡ run step start (readValue l)) × (length (readValue l) ≤ length w)
-WalkCase w Unread = (l : List Item) → Loose w l → ⊥
-
-pub record WalkSays (w : Bytes) (r : Walk) : Type 0 where
-  pub says : WalkCase w r

@@ -13,7 +13,7 @@ use Rattle.value.specs.Text.{Text}
 use Rattle.value.specs.Quotes.{text-one}
 use Rattle.value.specs.Loose.{text-loose}
 use Rattle.value.specs.Size.{reads-no-longer}
-use Rattle.value.specs.Asking.{inMessage, inScratch, Told, handed, refused, paper, NoText, Answer, no-value, stands, no-room, decoded, TextSays, absent, outside, there}
+use Rattle.value.specs.Asking.{inScratch, Told, handed, refused, paper, NoText, Answer, no-value, stands, no-room, decoded, TextSays, absent, outside, there}
 use Rattle.value.specs.Parts.{Place, Lies}
 use Rattle.value.specs.declared.text.Span.{Span}
 use Rattle.value.specs.declared.text.Words.{Words}

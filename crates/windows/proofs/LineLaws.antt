@@ -9,10 +9,10 @@ use lib.ListN.{length, length-append}
 use borrow.Author.Tests.{leb-true, le-leb, lt-leb}
 use Rattle.grammar.specs.Bytes.{Bytes, text}
 use Rattle.number.proofs.Tests.{cases}
-use Rattle.printing.specs.Digits.{printInt}
+use Rattle.number.specs.Digits.{printInt}
 use Rattle.printing.specs.Put.{MOST, Countable, Wrote}
 use Rattle.printing.specs.Writes.{_then_}
-use Rattle.printing.proofs.PrintLaws.{int-short}
+use Rattle.number.proofs.DigitLaws.{int-short}
 use Rattle.lines.specs.Text.{LF, column, lineText, lastText}
 use Rattle.windows.specs.Printed.{in64, linePrinted, lastPrinted, LINE, Printed, roomy, left}
 

@@ -25,7 +25,7 @@ pub fn turn(buf: &[u8], out: &mut [u8], waiting: usize, w: Window) -> Stand
 {
     let at = w.at;
     let len = w.len;
-    let listed = lines::list_step(&buf[at..len], w.last);
+    let listed = lists::list_step(&buf[at..len], w.last);
     match listed {
         Listed::Line {
             start,

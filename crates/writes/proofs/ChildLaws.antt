@@ -1,22 +1,22 @@
 -- The child of one row, its features, and what closes an element.
 use mathlib.Core.Path.{_≡_, refl, sym, ap, _∙_}
-use mathlib.Core.List.{List, [], _∷_, _++_, append-assoc, append-nil}
-use mathlib.Core.Bool.{Bool, true, false, _&&_, _||_, not, cond}
+use mathlib.Core.List.{[], _∷_, _++_, append-assoc, append-nil}
+use mathlib.Core.Bool.{Bool, true, false, _&&_, _||_, cond}
 use Prim.Native.Nat.{ℕ, zero, suc, _+_, _/_, _%_, _<_}
 use native.Mathlib.Nat.{mod-lt}
 use native.Mathlib.Omega.{arith}
 use lib.Dec.{eqb, lit<}
-use borrow.Author.Tests.{ne-eqb, eq-eqb, eqb-true}
+use borrow.Author.Tests.{eqb-true}
 use Rattle.exact.specs.Chain.{clash}
 use Rattle.grammar.specs.Bytes.{Bytes, text, nonEmpty}
 use Rattle.model.specs.Tests.{and-left, and-right}
-use Rattle.printing.proofs.PieceLaws.{join, Made}
+use Rattle.printing.proofs.PieceLaws.{Made}
 use Rattle.table.specs.Table.{Form, words, someWords, whole, guid, version, positive, features}
 use Rattle.message.specs.Fields.{aFeatures}
 use Rattle.message.specs.Cells.{isThere, featuresBy, fieldBy}
 use Rattle.meant.specs.Written.{closed, emptyTag, featuresInside, childOf}
 use Rattle.meant.proofs.ValueLaws.{isChild}
-use Rattle.rows.specs.Coding.{names, nameAt, formIn, rowOf}
+use Rattle.rows.specs.Coding.{names, nameAt, rowOf}
 use Rattle.rows.specs.declared.data.Row.{Row as Coded}
 use Rattle.writes.specs.Rows.{startTag, endTag, flagged, featuresIn, childBytes}
 use Rattle.writes.proofs.WorthLaws.{is-there, form-is}

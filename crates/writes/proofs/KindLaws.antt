@@ -9,9 +9,9 @@ use Rattle.message.specs.Messages.{fieldsOf, messageBy}
 use Rattle.meant.specs.Meant.{refusalOf}
 use Rattle.meant.specs.Written.{writtenOf}
 use Rattle.meant.proofs.MessageLaws.{refusal-table}
-use Rattle.writes.specs.Rows.{refusalFrom, writtenFrom}
-use Rattle.writes.specs.Writes.{answerBy, bufferBy, answerOf, bufferOf, Writes, CellsWritten}
-use Rattle.writes.specs.declared.messages.Written.{Written}
+use Rattle.writes.specs.Rows.{refusalFrom, writtenFrom, CellsWritten}
+use Rattle.meant.specs.Writes.{answerBy, bufferBy, answerOf, bufferOf, Writes}
+use Rattle.meant.specs.declared.Written.{Written}
 
 module _ (k : ℕ) (cells : List ℕ) (id texts : Bytes) where
   pub cells-refused : refusalFrom (rowsOf k) 0 cells id texts ≡ refusalOf (messageBy k cells id) texts

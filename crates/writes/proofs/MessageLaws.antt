@@ -15,13 +15,13 @@ use Rattle.printing.proofs.PieceLaws.{Made}
 use Rattle.table.specs.Table.{Row, table, isKind, rowsOf}
 use Rattle.table.specs.Theorems.{onKinds, each-kind}
 use Rattle.message.specs.Cells.{fieldsFrom}
-use Rattle.meant.specs.Written.{attributesOf, closed, childrenOf, nameOf}
+use Rattle.meant.specs.Written.{closed, childrenOf, nameOf}
 use Rattle.meant.proofs.MessageLaws.{refusal-table, written-by-table}
 use Rattle.meant.proofs.SizeLaws.{LARGEST, message-long, most-largest}
 use Rattle.rows.specs.Coding.{KINDS, WIDTH, kindNames, kinds, rowsFrom, RowsAt}
 use Rattle.rows.specs.declared.data.Range.{Range}
-use Rattle.writes.specs.Rows.{startTag, refusalFrom, attributesFrom, childrenFrom, writtenFrom}
-use Rattle.writes.specs.Writes.{refusedBy, CellsWritten}
+use Rattle.writes.specs.Rows.{startTag, refusalFrom, attributesFrom, childrenFrom, writtenFrom, CellsWritten}
+use Rattle.meant.specs.Writes.{refusedBy}
 use Rattle.writes.proofs.StepLaws.{children-same}
 
 -- the name of a kind is on its line

@@ -1,6 +1,6 @@
 -- The attribute of one row, by its form.
 use mathlib.Core.Path.{_≡_, refl, sym, ap, _∙_}
-use mathlib.Core.List.{List, [], _∷_, _++_}
+use mathlib.Core.List.{List, [], _∷_}
 use mathlib.Core.Bool.{Bool, true, false, cond}
 use Prim.Native.Nat.{ℕ, zero, suc, _≤_, _<_}
 use native.Mathlib.Omega.{arith}
@@ -8,12 +8,12 @@ use lib.Dec.{eqb}
 use borrow.Author.Tests.{ne-eqb}
 use Rattle.exact.specs.Chain.{clash}
 use Rattle.grammar.specs.Bytes.{Bytes, text}
-use Rattle.printing.specs.Digits.{printInt}
+use Rattle.number.specs.Digits.{printInt}
 use Rattle.printing.proofs.PieceLaws.{join, Made}
 use Rattle.spelling.specs.Written.{escape, printDecimal}
 use Rattle.spelling.proofs.Theorems.{int-as-is, decimal-as-is}
 use Rattle.table.specs.Table.{Form, words, someWords, whole, guid, version, positive, features}
-use Rattle.message.specs.Cells.{isThere, wordsBy, wholeBy, measureBy, guidBy, featuresBy, fieldBy}
+use Rattle.message.specs.Cells.{isThere, wordsBy, wholeBy, measureBy, guidBy, fieldBy}
 use Rattle.meant.specs.Meant.{textAt}
 use Rattle.meant.specs.Written.{attribute, attributeOf}
 use Rattle.meant.proofs.ValueLaws.{isChild}

@@ -1,11 +1,10 @@
 -- The rows of a range one behind the other: what is left at the row i is that row and what is left behind it. Nothing here speaks of a kind.
 use mathlib.Core.Path.{_≡_, refl, sym, ap, subst, _∙_}
 use mathlib.Core.List.{List, [], _∷_, _++_, append-assoc, append-nil}
-use mathlib.Core.Bool.{Bool, true, false, _||_}
 use Prim.Native.Nat.{ℕ, zero, suc, _+_, _-_, _*_, _≤_, _<_}
 use native.Mathlib.Omega.{arith}
 use lib.ListN.{length, length-append}
-use Rattle.grammar.specs.Bytes.{Bytes, nonEmpty}
+use Rattle.grammar.specs.Bytes.{Bytes}
 use Rattle.printing.specs.Put.{Countable, Wrote}
 use Rattle.printing.specs.Writes.{wrote-none, _then_}
 use Rattle.table.specs.Table.{Row, Form, words, someWords, whole, guid, version, positive, features}

@@ -12,9 +12,9 @@ use Rattle.message.specs.Cells.{fieldsFrom}
 use Rattle.message.specs.declared.cells.Message.{Message}
 use Rattle.meant.specs.Meant.{meantOf, refusalOf}
 use Rattle.meant.proofs.MessageLaws.{refusal-table, message-back}
-use Rattle.writes.specs.Rows.{refusalFrom, writtenFrom}
-use Rattle.writes.specs.Writes.{Writes, CellsWritten}
-use Rattle.writes.specs.declared.messages.Written.{Written}
+use Rattle.writes.specs.Rows.{refusalFrom, writtenFrom, CellsWritten}
+use Rattle.meant.specs.Writes.{Writes}
+use Rattle.meant.specs.declared.Written.{Written}
 
 -- no second result, and no other buffer, satisfies the promise of `write`
 pub write-only : {m : Message} {texts old new new′ : Bytes} {r r′ : Written} → Writes m texts old new r → Writes m texts old new′ r′ → (r ≡ r′) × (new ≡ new′)

@@ -1,21 +1,18 @@
 -- The refusal of one row, by its form.
 use mathlib.Core.Path.{_≡_, refl, sym, ap, _∙_}
 use mathlib.Core.Bool.{Bool, true, false, _&&_, not, cond}
-use Prim.Native.Nat.{ℕ, zero, suc, _/_, _≤_, _<_, max}
+use Prim.Native.Nat.{ℕ, _≤_, _<_, max}
 use lib.Dec.{eqb, leb}
-use borrow.Author.Tests.{ne-eqb, eq-eqb, le-leb, lt-leb}
+use borrow.Author.Tests.{ne-eqb, le-leb, lt-leb}
 use Rattle.grammar.specs.Bytes.{Bytes, within}
 use Rattle.number.specs.Positive.{BEHIND}
 use Rattle.number.specs.Guid.{guidOf}
 use Rattle.spelling.specs.Written.{matter}
-use Rattle.value.specs.declared.text.Words.the-variants.{Absent as NoWords, Present as IsWords}
-use Rattle.table.specs.Table.{Row, Form, words, someWords, whole, guid, version, positive, features}
-use Rattle.table.specs.Says.{Value, anInt, millionths, anId, noted, present, when, without, refusalIn}
+use Rattle.table.specs.Table.{Form, words, someWords, whole, guid, version, positive, features}
+use Rattle.table.specs.Says.{Value, anInt, millionths, anId, when, without, refusalIn}
 use Rattle.table.specs.Theorems.{by-flag}
-use Rattle.message.specs.Fields.{Field, aWords, aWhole, aMeasure, aGuid, aFeatures}
-use Rattle.message.specs.Cells.{isThere, bit, wordsBy, wholeBy, measureBy, guidBy, featuresBy, fieldBy}
-use Rattle.message.specs.declared.values.Whole.the-variants.{Absent as NoWhole, Present as IsWhole}
-use Rattle.message.specs.declared.values.Measure.the-variants.{Absent as NoMeasure, Present as IsMeasure}
+use Rattle.message.specs.Fields.{Field}
+use Rattle.message.specs.Cells.{isThere, wordsBy, wholeBy, measureBy, guidBy, featuresBy, fieldBy}
 use Rattle.meant.specs.Meant.{MOST, textMeant, meantAs, meantBy}
 use Rattle.rows.specs.Coding.{formIn, rowOf}
 use Rattle.rows.specs.declared.data.Row.{Row as Coded}

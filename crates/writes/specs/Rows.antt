@@ -1,16 +1,20 @@
 -- The rows of a message of cells: what each puts down and why it may be refused, and the rows one behind the other.
+use mathlib.Core.Path.{_≡_}
 use mathlib.Core.List.{List, [], _++_}
 use mathlib.Core.Bool.{cond}
 use Prim.Native.Nat.{ℕ}
+use lib.ListN.{length}
 use Rattle.grammar.specs.Bytes.{Bytes, text}
-use Rattle.printing.specs.Digits.{printInt}
+use Rattle.number.specs.Digits.{printInt}
 use Rattle.spelling.specs.Written.{escape, printDecimal}
 use Rattle.value.specs.declared.text.Span.{Span}
 use Rattle.table.specs.Table.{Row, Form, words, someWords, whole, guid, version, positive, features, rowsOf}
 use Rattle.table.specs.Says.{refusalIn}
 use Rattle.message.specs.Cells.{isThere, fieldBy, featuresBy, fieldsFrom}
-use Rattle.meant.specs.Meant.{textAt, meantBy, meantOf, firstIn, refusalBy}
+use Rattle.meant.specs.Meant.{textAt, meantBy, meantOf, firstIn}
 use Rattle.meant.specs.Written.{attributeOf, attributesOf, emptyTag, featuresInside, childOf, childrenOf, writtenBy}
+use Rattle.meant.specs.Writes.{answerBy, bufferBy}
+use Rattle.meant.specs.declared.Written.{Written}
 use Rattle.rows.specs.Coding.{rowOf}
 use Rattle.rows.specs.declared.data.Row.{Row as Coded}
 
@@ -63,3 +67,8 @@ flagged there n = cond (isThere there) (emptyTag n) []
 
 unfoldable pub featuresIn : ℕ → Bytes
 featuresIn bits = featuresInside (featuresBy 1 bits)
+
+-- what writing a message of cells promises
+pub record CellsWritten (k : ℕ) (cells : List ℕ) (id texts old new : Bytes) (r : Written) : Type 0 where
+  pub answer : r ≡ answerBy k (refusalFrom (rowsOf k) 0 cells id texts) (writtenFrom k cells id texts) (length old)
+  pub buffer : new ≡ bufferBy k (refusalFrom (rowsOf k) 0 cells id texts) (writtenFrom k cells id texts) old

@@ -7,7 +7,7 @@ mod refusing;
 mod sending;
 mod texts;
 
-pub use messages::Written;
+pub use meant::Written;
 pub use messages::write_cells;
 pub use sending::refusal_of;
 pub use sending::refusal_of_cells;

@@ -1,5 +1,4 @@
 // What stands around a name in a tag.
-ghost use mathlib.Core.List.{_++_};
 ghost use Rattle.grammar.specs.Bytes.{text};
 ghost use Rattle.printing.specs.Put.{Countable, Wrote};
 ghost use Rattle.writes.specs.Rows.{startTag, endTag};

@@ -5,12 +5,12 @@ ghost use Rattle.printing.specs.Put.{Countable, Wrote};
 ghost use Rattle.table.specs.Table.{isKind};
 ghost use Rattle.meant.specs.Written.{nameOf};
 ghost use Rattle.rows.specs.Coding.{numbers as coding, names as letters, kinds as kindCoding, kindNames as kindLetters};
-ghost use Rattle.writes.specs.Rows.{writtenFrom};
-ghost use Rattle.writes.specs.Writes.{CellsWritten};
+ghost use Rattle.writes.specs.Rows.{writtenFrom, CellsWritten};
 use crate::children::put_inside;
 use crate::marks::put_start;
 use crate::putting::put_rows;
 use crate::refusing::refusal_of_rows;
+use meant::Written;
 use printing::put;
 use rows::data::FIRST;
 use rows::data::KIND_NAMES;
@@ -20,12 +20,6 @@ use rows::data::NAMES;
 use rows::data::NUMBERS;
 use rows::data::WIDTH;
 use rows::data::rows_of;
-
-/// The refusal, and how many bytes were written.
-pub struct Written {
-    pub refusal: u8,
-    pub count: usize,
-}
 
 // The tags of the root.
 const ROOT: [u8; 8] = *b"<Hermes>";

@@ -14,8 +14,8 @@ use rows::data::Range;
 use rows::data::Row;
 use rows::data::name_at;
 use rows::data::row_at;
-use spelling::put_decimal;
-use spelling::put_escaped;
+use spells::put_decimal;
+use spells::put_escaped;
 use value::Span;
 
 // What stands between the quotes.

@@ -1,11 +1,11 @@
 // Messages, refused or written by their cells.
 ghost use mathlib.Core.Path.{_≡_};
 ghost use Rattle.meant.specs.Meant.{refusalOf};
-ghost use Rattle.writes.specs.Writes.{Writes};
+ghost use Rattle.meant.specs.Writes.{Writes};
 ghost use Rattle.message.specs.Messages.{messageBy};
-use crate::messages::Written;
 use crate::messages::write_cells;
 use crate::refusing::refusal_of_rows;
+use meant::Written;
 use message::Message;
 use rows::data::NUMBERS;
 

@@ -32,7 +32,7 @@ fn is_sendable(texts: &[u8], p: Span) -> bool
     if texts.len() - start < len {
         return false;
     }
-    spelling::is_text(&texts[start..start + len])
+    spells::is_text(&texts[start..start + len])
 }
 
 /// A text of at most so many bytes.

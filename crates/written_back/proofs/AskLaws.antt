@@ -1,17 +1,16 @@
 -- The Id of a CheckAlive, asked for with a scratch of 80 bytes, and what is replied.
 use mathlib.Core.Path.{_≡_, refl, sym, ap, subst, _∙_}
-use mathlib.Core.List.{List, [], _∷_, _++_}
-use mathlib.Core.Bool.{Bool, true, false, cond}
-use mathlib.Core.Logic.{_⊎_, inl, inr, ⊎-elim}
-use Prim.Native.Nat.{ℕ, _+_, _≤_, _<_}
+use mathlib.Core.List.{List, [], _∷_}
+use mathlib.Core.Bool.{Bool, true, false}
+use Prim.Native.Nat.{ℕ, _+_, _≤_}
 use native.Mathlib.Omega.{arith}
-use lib.ListN.{length, take, drop, length-append, length-drop}
+use lib.ListN.{length, take, drop}
 use lib.Dec.{leb}
-use denote.Ref.{RefT, now, ptr}
-use borrow.Author.Tests.{le-leb, leb-true, leb-false}
+use denote.Ref.{RefT, now}
+use borrow.Author.Tests.{leb-true, leb-false}
 use Rattle.grammar.specs.Bytes.{Bytes}
 use Rattle.spelling.proofs.EscapeLaws.{Unnamed}
-use Rattle.value.specs.Text.{Text, asRead}
+use Rattle.value.specs.Text.{Text}
 use Rattle.value.specs.AsRead.{raw-as-read-iff}
 use Rattle.value.specs.Asking.{Told, refused, paper, Answer, no-value, stands, no-room, decoded, TextSays, absent, outside, there}
 use Rattle.value.specs.Asked.{refusalOf}
@@ -24,11 +23,11 @@ use Rattle.value.specs.declared.text.Words.the-variants.{Present}
 use Rattle.value.specs.declared.text.TextAt.{TextAt}
 use Rattle.value.specs.declared.text.TextAt.the-variants.{InMessage, InScratch}
 use Rattle.meant.specs.Written.{writtenOf}
-use Rattle.writes.specs.Writes.{refusedBy}
-use Rattle.writes.specs.declared.messages.Written.{Written}
-use Rattle.written_back.specs.First.{First}
+use Rattle.meant.specs.Writes.{refusedBy}
+use Rattle.meant.specs.declared.Written.{Written}
+use Rattle.meant.specs.First.{First}
 use Rattle.written_back.specs.Framed.{bareReply, SameReply}
-use Rattle.written_back.specs.Replies.{sameOf, bareOf, Reply, same-id, no-id, Replies, replied, too-long, outside as lies-outside, no-text}
+use Rattle.meant.specs.Replies.{sameOf, bareOf, same-id, no-id, Replies, replied, too-long, outside as lies-outside, no-text}
 use Rattle.written_back.proofs.ReplyLaws.{bare-bytes, same-bytes}
 
 -- what is known of the Id by the number that was said of it

@@ -1,4 +1,2 @@
-pub mod ReadLaws
 pub mod ReplyLaws
 pub mod AskLaws
-pub mod Theorems

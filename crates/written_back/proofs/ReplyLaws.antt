@@ -1,33 +1,31 @@
 -- The bytes of an answer, and that they are first in the buffer.
 use mathlib.Core.Path.{_≡_, refl, sym, ap, subst, _∙_}
 use mathlib.Core.List.{[], _∷_, _++_, append-nil}
-use mathlib.Core.Bool.{true}
 use Prim.Native.Nat.{ℕ, _+_, _-_, _≤_, _<_}
 use native.Mathlib.Omega.{arith}
 use native.Mathlib.Nat.{zero-add}
 use lib.ListN.{length, take, drop, length-append, length-take}
 use lib.Seq.{take-all}
 use borrow.Author.Tests.{ne-eqb, le-leb, lt-leb}
-use Rattle.grammar.specs.Bytes.{Bytes, text, within}
+use Rattle.grammar.specs.Bytes.{Bytes, text}
 use Rattle.printing.specs.Put.{Wrote}
 use Rattle.printing.specs.Writes.{put-starts}
-use Rattle.printing.specs.Digits.{printInt, digitsOf}
+use Rattle.number.specs.Digits.{printInt, digitsOf}
 use Rattle.printing.proofs.PieceLaws.{Made}
 use Rattle.spelling.specs.Written.{escapeByte, escape}
-use Rattle.spelling.specs.Decided.{isText}
 use Rattle.spelling.proofs.EscapeLaws.{Unnamed, escape-long}
 use Rattle.table.specs.Table.{table}
 use Rattle.message.specs.Cells.{wordsBy, wholeBy, fieldBy, fieldsFrom, cellsOf, measureBy, guidBy, featuresBy}
 use Rattle.message.specs.Messages.{messageFrom, fieldsOf, withZeros}
-use Rattle.meant.specs.Meant.{meantBy, meantOf, refusalOf}
 use Rattle.meant.specs.Written.{attributeOf, attributesOf, childOf, childrenOf, writtenOf}
 use Rattle.meant.specs.Notices.{description, notice, noticeMessage}
 use Rattle.meant.proofs.Theorems.{notice-written}
-use Rattle.writes.specs.Writes.{refusedBy}
-use Rattle.writes.specs.declared.messages.Written.{Written}
-use Rattle.written_back.specs.First.{First}
+use Rattle.meant.specs.Writes.{refusedBy}
+use Rattle.meant.specs.declared.Written.{Written}
+use Rattle.meant.specs.First.{First}
 use Rattle.written_back.specs.Framed.{framed, bareReply, sameReply, described, SameReply}
-use Rattle.written_back.specs.Replies.{noticeOf, sameOf, bareOf}
+use Rattle.written_back.specs.Described.{noticeOf}
+use Rattle.meant.specs.Replies.{sameOf, bareOf}
 
 -- three pieces
 pub framed-is : (f v b : Bytes) → Made (framed f v b) (f ∷ escape v ∷ b ∷ [])
@@ -75,15 +73,6 @@ pub notified : (n : ℕ) {d old new : Bytes} {r : Written} → description n ≡
 unfolding noticeMessage noticeOf
 notified n {d} {old} {new} {r} e w =
     subst (λ (b : Bytes). First b old new r) (sym (notice-written n ∙ sym (notice-bytes (description n)))) (subst (λ (d : Bytes). First (described d) old new r) (sym e) w)
-
--- sending does not refuse the replies
-pub bare-sendable : refusalOf bareOf [] ≡ 0
-unfolding bareOf messageFrom fieldsOf table meantOf meantBy within withZeros cellsOf fieldsFrom fieldBy wordsBy wholeBy measureBy guidBy featuresBy
-bare-sendable = refl
-
-pub same-sendable : (v : Bytes) → isText v ≡ true → length v ≤ 80 → refusalOf (sameOf (length v)) v ≡ 0
-unfolding sameOf messageFrom fieldsOf table meantOf meantBy within withZeros cellsOf fieldsFrom fieldBy wordsBy wholeBy measureBy guidBy featuresBy
-same-sendable v t h = rw (whole-text v, le-leb (length v) 80 h, t, le-leb (0 + length v) (length v) (omega arith)) refl
 
 -- the reply with an Id, which may be too long
 pub same-short : {v old new : Bytes} {r : Written} → length v ≤ 80 → First (sameReply v) old new r → SameReply v old new r

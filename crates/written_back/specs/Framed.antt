@@ -1,13 +1,13 @@
 -- Answers as they stand: a text between bytes that are known.
 use mathlib.Core.Path.{_≡_}
 use mathlib.Core.List.{[], _++_}
-use Prim.Native.Nat.{ℕ, _≤_, _<_}
+use Prim.Native.Nat.{_≤_, _<_}
 use lib.ListN.{length}
 use Rattle.grammar.specs.Bytes.{Bytes, text}
 use Rattle.spelling.specs.Written.{escape}
-use Rattle.writes.specs.Writes.{refusedBy}
-use Rattle.writes.specs.declared.messages.Written.{Written}
-use Rattle.written_back.specs.First.{First}
+use Rattle.meant.specs.Writes.{refusedBy}
+use Rattle.meant.specs.declared.Written.{Written}
+use Rattle.meant.specs.First.{First}
 
 abbrev pub framed : Bytes → Bytes → Bytes → Bytes
 framed front v back = front ++ (escape v ++ back)

@@ -1,3 +1,2 @@
-pub mod First
+pub mod Described
 pub mod Framed
-pub mod Replies

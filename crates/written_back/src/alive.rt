@@ -1,10 +1,10 @@
 // The reply to a CheckAlive of Type 1.
-ghost use Rattle.written_back.specs.First.{First};
-ghost use Rattle.written_back.specs.Replies.{Replies};
+ghost use Rattle.meant.specs.First.{First};
+ghost use Rattle.meant.specs.Replies.{Replies};
 ghost use Rattle.written_back.specs.Framed.{bareReply, SameReply};
 use crate::framed::framed;
+use meant::Written;
 use value::Words;
-use writes::Written;
 
 // Without an Id.
 fn reply_bare(out: &mut [u8]) -> Written

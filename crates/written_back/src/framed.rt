@@ -1,13 +1,12 @@
 // A text between bytes that are known, put down as it stands.
-ghost use mathlib.Core.List.{_++_};
 ghost use Prim.Native.Nat.{_≤_};
 ghost use lib.ListN.{length};
 ghost use Rattle.printing.specs.Put.{Countable, Wrote};
-ghost use Rattle.written_back.specs.First.{First};
+ghost use Rattle.meant.specs.First.{First};
 ghost use Rattle.written_back.specs.Framed.{framed as around};
+use meant::Written;
 use printing::put;
-use spelling::put_escaped;
-use writes::Written;
+use spells::put_escaped;
 
 // No more is put down: 80 bytes in front, 80 of which each becomes six, 80 behind.
 const LARGEST: usize = 640;

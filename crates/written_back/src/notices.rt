@@ -2,12 +2,12 @@
 ghost use Prim.Native.Nat.{_≤_};
 ghost use lib.ListN.{length};
 ghost use Rattle.meant.specs.Notices.{notice};
-ghost use Rattle.written_back.specs.First.{First};
-ghost use Rattle.written_back.specs.Replies.{Described};
+ghost use Rattle.meant.specs.First.{First};
+ghost use Rattle.written_back.specs.Described.{Described};
 ghost use Rattle.written_back.specs.Framed.{described};
 use crate::framed::framed;
+use meant::Written;
 use value::Span;
-use writes::Written;
 
 // A description a line.
 const DESCRIPTIONS: [u8; 108] = *b"\

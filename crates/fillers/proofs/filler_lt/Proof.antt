@@ -1,5 +1,4 @@
 -- Glue and a tag at once, all else bit by bit.
-use native.Mathlib.Omega.{arith}
 use Rattle.fillers.proofs.FillLaws.{fill-glue}
 use borrow.Author.Needs.{needs}
 use Rattle.fillers.proofs.filler_lt.Statement.{statement}

@@ -1,5 +1,4 @@
 -- Glue, then the byte behind it says which.
-use native.Mathlib.Omega.{arith}
 use Rattle.fillers.proofs.FillLaws.{below-root, in-root, gap-open, gap-lt, gap-text, gap-bad}
 use borrow.Author.Needs.{needs}
 use Rattle.fillers.proofs.gap.Statement.{statement}

@@ -1,5 +1,4 @@
 -- Nothing is asked of other kinds.
-use native.Mathlib.Omega.{arith}
 use Rattle.moves.proofs.AskedLaws.{below, above, own}
 use borrow.Author.Needs.{needs}
 use Rattle.moves.proofs.carries_held.Statement.{statement}

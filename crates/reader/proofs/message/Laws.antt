@@ -31,7 +31,7 @@ use Rattle.scan.specs.declared.Step.the-variants.{Done, Open}
 use Rattle.tags.specs.Heads.{HeadRead, HeadSays}
 use Rattle.fillers.specs.Fills.{fillTok, GotFiller, fill-word}
 use Rattle.reader.specs.Elements.{GotStart}
-use Rattle.reader.specs.Outline.{innerOf, childOf, tagIn, rootLead, lead, insideFrom}
+use Rattle.grammar.specs.Places.{innerOf, childOf, tagIn, rootLead, lead, insideFrom}
 use Rattle.reader.specs.Message.{withEnd, itself, none, Drawn, GotInner, insideP, GotInside, declaredP, declaredLead}
 use Rattle.tags.specs.declared.attributes.Tag.{Tag}
 use Rattle.reader.specs.declared.elements.Start.{Start}

@@ -1,6 +1,5 @@
 -- `filled` reads within the bytes, and ends.
 use borrow.Author.Needs.{needs}
-use native.Mathlib.Omega.{arith}
 use Prim.Native.Nat.{_≤_}
 use lib.ListN.{length}
 use Rattle.case_words.proofs.show.filled.Statement.{statement}

@@ -1,6 +1,6 @@
 -- By the kind.
 use mathlib.Core.Path.{sym, ap}
-use Rattle.events.specs.Events.{forecastCell}
+use Rattle.events.specs.Says.{forecastCell}
 use Rattle.events.proofs.NameLaws.{cell-else}
 use Rattle.events.proofs.named.forecast_cell.Statement.{statement}
 use Rattle.events.proofs.named.forecast_cell.Tie as tie

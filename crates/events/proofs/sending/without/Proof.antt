@@ -1,6 +1,4 @@
 -- No forecast.
-use mathlib.Core.Path.{ap}
-use Rattle.lane.specs.declared.ids.Forecast.{Forecast}
 use borrow.Author.Needs.{needs}
 use Rattle.events.proofs.sending.without.Statement.{statement}
 use Rattle.events.proofs.sending.without.Tie as tie

@@ -2,7 +2,6 @@
 use mathlib.Core.Path.{refl}
 use mathlib.Core.Logic.{inl, inr}
 use Rattle.fillers.proofs.RunLaws.{run-none}
-use borrow.Author.Needs.{needs}
 use Rattle.fillers.proofs.texts.clear.Statement.{statement}
 use Rattle.fillers.proofs.texts.clear.Tie as tie
 

@@ -1,5 +1,4 @@
 -- `<`, and behind two `]` also `>`.
-use native.Mathlib.Omega.{arith}
 use borrow.Author.Tests.{le-leb, lt-leb}
 use Rattle.fillers.proofs.texts.stop.Statement.{statement}
 use Rattle.fillers.proofs.texts.stop.Tie as tie

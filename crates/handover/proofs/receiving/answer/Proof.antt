@@ -1,5 +1,5 @@
 -- By the refusal: nothing, a Notification, a reply.
-use Rattle.promises.proofs.ReceiveLaws.{answers-nothing-yet, answers-notice, answers-reply, answers-none}
+use Rattle.handover.proofs.ReceiveLaws.{answers-nothing-yet, answers-notice, answers-reply, answers-none}
 use borrow.Author.Needs.{needs}
 use Rattle.handover.proofs.receiving.answer.Statement.{statement}
 use Rattle.handover.proofs.receiving.answer.Tie as tie

@@ -1,5 +1,5 @@
 -- By the kind and its Type.
-use Rattle.promises.proofs.IdLaws.{asks-none, asks-some, asks-other}
+use Rattle.handover.proofs.IdLaws.{asks-none, asks-some, asks-other}
 use Rattle.handover.proofs.receiving.asks_reply.Statement.{statement}
 use Rattle.handover.proofs.receiving.asks_reply.Tie as tie
 use Rattle.handover.proofs.receiving.asks_reply.Reads as reads

@@ -1,6 +1,6 @@
 -- By what writing answered, and by the lane.
 use mathlib.Core.Path.{refl}
-use Rattle.promises.specs.Receiving.{lacks-room, refuses, tells}
+use Rattle.handover.specs.Inner.{lacks-room, refuses, tells}
 use borrow.Author.Needs.{needs}
 use Rattle.handover.proofs.receiving.finish.Statement.{statement}
 use Rattle.handover.proofs.receiving.finish.Tie as tie

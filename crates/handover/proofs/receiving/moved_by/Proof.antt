@@ -1,5 +1,5 @@
 -- By the refusal.
-use Rattle.promises.proofs.IdLaws.{moved-on, moved-kept, moved-ended}
+use Rattle.handover.proofs.IdLaws.{moved-on, moved-kept, moved-ended}
 use borrow.Author.Needs.{needs}
 use Rattle.handover.proofs.receiving.moved_by.Statement.{statement}
 use Rattle.handover.proofs.receiving.moved_by.Tie as tie

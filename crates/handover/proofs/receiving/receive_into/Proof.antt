@@ -2,7 +2,7 @@
 use mathlib.Core.Path.{sym, _∙_}
 use native.Mathlib.Omega.{arith}
 use Rattle.reads.proofs.CheckLaws.{all-cells}
-use Rattle.promises.proofs.ReceiveLaws.{forecast-cells, sound-id, finish-long, into-all}
+use Rattle.handover.proofs.ReceiveLaws.{forecast-cells, sound-id, finish-long, into-all}
 use borrow.Author.Needs.{needs}
 use Rattle.handover.proofs.receiving.receive_into.Statement.{statement}
 use Rattle.handover.proofs.receiving.receive_into.Tie as tie

@@ -1,5 +1,5 @@
 -- 4, 5, 6 decide before 8.
-use Rattle.promises.proofs.SendLaws.{refused-first, refused-then}
+use Rattle.handover.proofs.SendLaws.{refused-first, refused-then}
 use borrow.Author.Needs.{needs}
 use Rattle.handover.proofs.sending.may_not.Statement.{statement}
 use Rattle.handover.proofs.sending.may_not.Tie as tie

@@ -1,5 +1,5 @@
 -- By the chart, then by what writing answers.
-use Rattle.promises.proofs.SendLaws.{moved-by, is-not-sent, is-refused, is-sent}
+use Rattle.handover.proofs.SendLaws.{moved-by, is-not-sent, is-refused, is-sent}
 use borrow.Author.Needs.{needs}
 use Rattle.handover.proofs.sending.send_from.Statement.{statement}
 use Rattle.handover.proofs.sending.send_from.Tie as tie

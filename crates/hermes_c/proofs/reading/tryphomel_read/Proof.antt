@@ -1,8 +1,18 @@
 -- The numbers that C is handed are those of the answer.
+use mathlib.Core.Path.{_≡_, subst}
+use Rattle.grammar.specs.Bytes.{Bytes}
+use Rattle.grammar.specs.Answer.{Answers, answerNumber}
+use Rattle.reader.specs.Answer.{paper}
+use Rattle.reader.specs.declared.answer.Answer.{Answer}
+use Rattle.c_promises.specs.Reading.{startOf, placeOf, Told}
 use Rattle.c_promises.proofs.ReadLaws.{told}
 use borrow.Author.Needs.{needs}
 use Rattle.hermes_c.proofs.reading.tryphomel_read.Statement.{statement}
 use Rattle.hermes_c.proofs.reading.tryphomel_read.Tie as tie
+
+-- the answer r, which is a
+read-told : (s : Bytes) (r a : Answer) → r ≡ a → Answers s (paper r) → Told s (answerNumber (paper a)) (startOf (paper a)) (placeOf (paper a))
+read-told s r a e p = told s (paper a) (subst (λ (x : Answer). Answers s (paper x)) e p)
 
 read-requires : tie.Need-read-requires
 read-requires c κs = search needs
@@ -20,16 +30,16 @@ enum-known-answer-4 : tie.Need-enum-known-answer-4
 enum-known-answer-4 c = search needs
 
 returns : tie.Need-returns
-returns c = told _ _ _ (c .before .answer .given .1) (c .before .before .before .read .ensures)
+returns c = read-told _ _ _ (c .before .answer .given .1) (c .before .before .before .read .ensures)
 
 returns-2 : tie.Need-returns-2
-returns-2 c = told _ _ _ (c .before .answer2 .given .1) (c .before .before .before .read .ensures)
+returns-2 c = read-told _ _ _ (c .before .answer2 .given .1) (c .before .before .before .read .ensures)
 
 returns-3 : tie.Need-returns-3
-returns-3 c = told _ _ _ (c .before .answer3 .given .1) (c .before .before .before .read .ensures)
+returns-3 c = read-told _ _ _ (c .before .answer3 .given .1) (c .before .before .before .read .ensures)
 
 returns-4 : tie.Need-returns-4
-returns-4 c = told _ _ _ (c .before .answer4 .given .1) (c .before .before .before .read .ensures)
+returns-4 c = read-told _ _ _ (c .before .answer4 .given .1) (c .before .before .before .read .ensures)
 
 pub tryphomel-read-spec : {M : Type 1} → statement M
 tryphomel-read-spec =

@@ -1,11 +1,10 @@
 -- `righted` is the definition's. The invariant: the id's first bytes are put down, with zeros behind.
-use mathlib.Core.Path.{_≡_, refl, _∙_, sym}
+use mathlib.Core.Path.{_≡_, refl, _∙_}
 use Prim.Native.Nat.{_≤_, _-_}
 use native.Mathlib.Omega.{arith}
 use borrow.Author.Needs.{needs}
-use borrow.Author.Tests.{lt-leb, le-leb}
 use lib.ListN.{length}
-use Rattle.lane.specs.Ids.{padded, righted}
+use Rattle.lane.specs.Ids.{padded}
 use Rattle.lane.specs.IdLaws.{padded-more, righted-none, righted-over, righted-in}
 use Rattle.moves.proofs.ids.righted.Statement.{statement}
 use Rattle.moves.proofs.ids.righted.Tie as tie

@@ -3,7 +3,6 @@ use mathlib.Core.Path.{sym}
 use native.Mathlib.Omega.{arith}
 use Rattle.numerals.specs.Ahead.{partOf}
 use Rattle.numerals.proofs.AheadLaws.{part-steps}
-use borrow.Author.Needs.{needs}
 use Rattle.numerals.proofs.ahead.part_ahead.Statement.{statement}
 use Rattle.numerals.proofs.ahead.part_ahead.Tie as tie
 

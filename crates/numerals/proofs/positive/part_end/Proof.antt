@@ -1,6 +1,6 @@
 -- A number with its digits behind the point, or none.
 use borrow.Author.Needs.{needs}
-use Rattle.numerals.specs.Scan.{powerEnd, bodyEnd, numberBodyEnd, bodyDecimals}
+use Rattle.numerals.specs.Scan.{bodyEnd, numberBodyEnd, bodyDecimals}
 use Rattle.numerals.proofs.CodeLaws.{told-none, told-some}
 use Rattle.numerals.proofs.positive.part_end.Statement.{statement}
 use Rattle.numerals.proofs.positive.part_end.Tie as tie

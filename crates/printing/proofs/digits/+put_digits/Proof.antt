@@ -2,7 +2,7 @@
 use mathlib.Core.Path.{_∙_}
 use native.Mathlib.Omega.{arith}
 use Rattle.printing.specs.Writes.{_then_}
-use Rattle.printing.proofs.PrintLaws.{print-small, print-more, print-length}
+use Rattle.number.proofs.DigitLaws.{print-small, print-more, print-length}
 use Prim.Native.Nat.{ℕ, _<_}
 use borrow.Fn.Kinds.{In}
 use borrow.Fn.PlainCycle.{Measures, is, falls, and}

@@ -2,7 +2,7 @@
 use mathlib.Core.Path.{_∙_}
 use native.Mathlib.Omega.{arith}
 use Rattle.printing.specs.Writes.{wrote-none, _then_}
-use Rattle.printing.proofs.PrintLaws.{places-none, places-more, places-length}
+use Rattle.number.proofs.DigitLaws.{places-none, places-more, places-length}
 use Prim.Native.Nat.{ℕ, _<_}
 use borrow.Fn.Kinds.{In}
 use borrow.Fn.PlainCycle.{Measures, is, falls, and}

@@ -1,7 +1,7 @@
 -- `declared` meets its contract: the declaration, filler and the root, one law for each return.
 use native.Mathlib.Omega.{arith}
 use Rattle.scan.proofs.Chain.{known}
-use Rattle.reader.specs.Outline.{childOf}
+use Rattle.grammar.specs.Places.{childOf}
 use Rattle.reader.specs.Message.{declaredLead}
 use Rattle.reader.proofs.elements.Laws.{known-filler}
 use Rattle.reader.proofs.message.Laws.{inner-fails, declared-fails, declared-filler-fails, declared-read}

@@ -2,7 +2,7 @@
 use mathlib.Core.Logic.{inl}
 use mathlib.Core.Path.{refl}
 use Rattle.scan.proofs.Chain.{known}
-use Rattle.reader.specs.Outline.{childOf, lead}
+use Rattle.grammar.specs.Places.{childOf, lead}
 use Rattle.reader.proofs.message.Laws.{inner-fails, message-fails, message-open, message-declared, message-plain}
 use borrow.Author.Needs.{needs}
 use Rattle.reader.proofs.message.message.Statement.{statement}

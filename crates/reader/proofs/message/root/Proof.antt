@@ -1,7 +1,7 @@
 -- `root` meets its contract: `Hermes`, its tag, filler, and what is inside, one law for each return.
 use native.Mathlib.Omega.{arith}
 use Rattle.scan.proofs.Chain.{known}
-use Rattle.reader.specs.Outline.{innerOf, rootLead}
+use Rattle.grammar.specs.Places.{innerOf, rootLead}
 use Rattle.reader.proofs.elements.Laws.{known-filler, known-head}
 use Rattle.reader.proofs.message.Laws.{inner-fails, root-name-fails, root-tag-fails, root-filler-fails, root-read}
 use borrow.Author.Needs.{needs}

@@ -2,8 +2,8 @@
 use mathlib.Core.Path.{refl}
 use Prim.Native.Nat.{_-_}
 use native.Mathlib.Omega.{arith}
-use Rattle.value.proofs.DecodeLaws.{Putting, putting-none}
-use Rattle.value.proofs.IdLaws.{copy-more, copy-end}
+use Rattle.decodes.proofs.DecodeLaws.{Putting, putting-none}
+use Rattle.decodes.proofs.IdLaws.{copy-more, copy-end}
 use Rattle.reads.proofs.ids.copied.Statement.{statement}
 use Rattle.reads.proofs.ids.copied.Tie as tie
 

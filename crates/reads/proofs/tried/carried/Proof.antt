@@ -9,7 +9,6 @@ use mathlib.Core.Path.{ap, sym, _∙_}
 use mathlib.Core.Bool.{Bool, cond}
 use lib.Dec.{eqb}
 use borrow.Author.Tests.{eq-eqb, ne-eqb}
-use Rattle.reads.specs.Kept.{lacking}
 use borrow.Author.Needs.{needs}
 use Rattle.reads.proofs.tried.carried.Statement.{statement}
 use Rattle.reads.proofs.tried.carried.Tie as tie

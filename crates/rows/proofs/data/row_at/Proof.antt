@@ -6,7 +6,6 @@ use native.Mathlib.Omega.{arith}
 use lib.ListN.{length, getD}
 use Rattle.rows.specs.Coding.{coded, codedAt}
 use Rattle.rows.proofs.CodingLaws.{few-rows}
-use borrow.Author.Needs.{needs}
 use Rattle.rows.proofs.data.row_at.Statement.{statement}
 use Rattle.rows.proofs.data.row_at.Tie as tie
 

@@ -1,5 +1,4 @@
 -- Each test that fails decides; where none does, the class of the byte does.
-use mathlib.Core.Path.{_≡_}
 use Prim.Native.Nat.{_≤_, _<_}
 use native.Mathlib.Omega.{arith}
 use borrow.Author.Tests.{le-leb, lt-leb}

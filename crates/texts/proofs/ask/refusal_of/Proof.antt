@@ -1,5 +1,4 @@
 -- Each answer has its number.
-use mathlib.Core.Path.{_≡_}
 use Rattle.value.specs.Asked.{refusalOf}
 use borrow.Author.Needs.{needs}
 use Rattle.texts.proofs.ask.refusal_of.Statement.{statement}

@@ -1,8 +1,5 @@
 -- Whether the slice reaches so far.
-use mathlib.Core.Path.{_≡_, refl}
-use Prim.Native.Nat.{_+_, _≤_}
 use native.Mathlib.Omega.{arith}
-use lib.ListN.{length}
 use Rattle.value.proofs.PartLaws.{part-out, part-in}
 use borrow.Author.Needs.{needs}
 use Rattle.texts.proofs.part.part_or.Statement.{statement}

@@ -1,6 +1,6 @@
 -- Each answer by where the place is.
 use native.Mathlib.Omega.{arith}
-use Rattle.value.proofs.TextLaws.{text-absent, text-outside, text-there}
+use Rattle.decodes.proofs.TextLaws.{text-absent, text-outside, text-there}
 use borrow.Author.Needs.{needs}
 use Rattle.texts.proofs.text.text_decode.Statement.{statement}
 use Rattle.texts.proofs.text.text_decode.Tie as tie

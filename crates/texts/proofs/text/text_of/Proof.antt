@@ -1,7 +1,7 @@
 -- Each answer by what was found.
 use mathlib.Core.Path.{refl}
-use Rattle.value.proofs.DecodeLaws.{length-known}
-use Rattle.value.proofs.TextLaws.{answer-not, answer-unquoted, answer-plain, answer-stands, answer-short, answer-decoded}
+use Rattle.decodes.proofs.DecodeLaws.{length-known}
+use Rattle.decodes.proofs.TextLaws.{answer-not, answer-unquoted, answer-plain, answer-stands, answer-short, answer-decoded}
 use borrow.Author.Needs.{needs}
 use Rattle.texts.proofs.text.text_of.Statement.{statement}
 use Rattle.texts.proofs.text.text_of.Tie as tie

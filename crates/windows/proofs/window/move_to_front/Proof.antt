@@ -1,9 +1,6 @@
 use Rattle.windows.proofs.WindowLaws.{Moved, move-start, move-one, moved-all}
-use mathlib.Core.Path.{_≡_, refl, sym, ap, _∙_}
-use Prim.Native.Nat.{_+_, _-_, _≤_}
+use Prim.Native.Nat.{_-_}
 use native.Mathlib.Omega.{arith}
-use lib.ListN.{length}
-use borrow.Author.Needs.{needs}
 use Rattle.windows.proofs.window.move_to_front.Statement.{statement}
 use Rattle.windows.proofs.window.move_to_front.Tie as tie
 use Rattle.windows.proofs.window.move_to_front.Reads as reads

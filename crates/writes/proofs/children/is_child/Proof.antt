@@ -1,6 +1,6 @@
 -- By the form, then by the cell.
-use mathlib.Core.Path.{_≡_, refl, sym, ap, _∙_}
-use mathlib.Core.Bool.{Bool, _&&_, not}
+use mathlib.Core.Path.{sym, ap}
+use mathlib.Core.Bool.{Bool, _&&_}
 use borrow.Author.Tests.{eq-eqb, ne-eqb}
 use Rattle.message.specs.Cells.{isThere}
 use Rattle.writes.proofs.children.is_child.Statement.{statement}

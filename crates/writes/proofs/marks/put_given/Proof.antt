@@ -1,5 +1,4 @@
 -- Two bytes, one behind the other.
-use mathlib.Core.Path.{refl}
 use native.Mathlib.Omega.{arith}
 use Rattle.printing.specs.Writes.{_then_}
 use borrow.Author.Needs.{needs}

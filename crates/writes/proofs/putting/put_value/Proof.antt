@@ -1,5 +1,5 @@
 -- The value by its form.
-use Rattle.printing.specs.Digits.{printInt}
+use Rattle.number.specs.Digits.{printInt}
 use Rattle.spelling.specs.Written.{escape, printDecimal}
 use Rattle.printing.proofs.PieceLaws.{same-put, same-fits}
 use Rattle.writes.proofs.PutLaws.{value-int, value-id, value-decimal, value-text}

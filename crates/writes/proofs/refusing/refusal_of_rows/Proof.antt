@@ -1,5 +1,5 @@
 -- The invariant: the rows before i do not refuse.
-use mathlib.Core.Path.{_≡_, refl, sym, ap, _∙_}
+use mathlib.Core.Path.{_≡_, sym, ap, _∙_}
 use mathlib.Core.List.{List}
 use Prim.Native.Nat.{_≤_, _-_, _+_}
 use Rattle.table.specs.Table.{Row, rowsOf}

@@ -1,5 +1,5 @@
 -- Each number has its line.
-use mathlib.Core.Path.{_≡_, refl, sym, ap}
+use mathlib.Core.Path.{sym, ap}
 use native.Mathlib.Omega.{arith}
 use Rattle.meant.specs.Notices.{description}
 use Rattle.written_back.proofs.ReplyLaws.{undescribed}

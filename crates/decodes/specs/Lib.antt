@@ -1,0 +1,5 @@
+pub mod Plain
+pub mod Walk
+pub mod Units
+pub mod Decoded
+pub mod Walked

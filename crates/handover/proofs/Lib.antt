@@ -1,0 +1,3 @@
+pub mod IdLaws
+pub mod ReceiveLaws
+pub mod SendLaws
