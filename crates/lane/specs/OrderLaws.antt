@@ -7,7 +7,7 @@ use Prim.Native.Nat.{ℕ}
 use native.Mathlib.Omega.{arith}
 use lib.Dec.{T, eqb, eqb→eq}
 use borrow.Author.Tests.{eqb-true}
-use Rattle.lane.specs.Names.{U, D, Ready, Both, StartTransport, NoOrder, Run, Cancel, StopNow}
+use Rattle.lane.specs.Names.{D, Ready, Both, StartTransport, NoOrder, Run, Cancel, StopNow}
 use Rattle.lane.specs.Chart.{pick, both, either, among, Sent, chart, byRows, next}
 use Rattle.lane.specs.Record.{carriesOwn, startOrder}
 use Rattle.lane.specs.Laws.{both-parts, by-rows, next-cases}

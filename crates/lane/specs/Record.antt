@@ -1,7 +1,7 @@
 -- "A lane record holds our side, one of nine states, the offered BoardId and the running BoardId"; with order 3, "the last ForecastId received in a forecast".
 -- What a message, received or sent, makes of it; every record has an answer, also one that we never write.
 use mathlib.Core.List.{List, [], _∷_}
-use mathlib.Core.Bool.{Bool, true}
+use mathlib.Core.Bool.{Bool}
 use Prim.Native.Nat.{ℕ}
 use lib.Dec.{eqb}
 use Rattle.lane.specs.Names.{U, D, NotConnected, Idle, Offered, Ready, Both, Transporting, Stopped, Finished, BoardAvailable, MachineReady, StartTransport, BoardForecast, NoOrder, Run, Cancel, StopNow, Accepted, MayNotBeSent, ProtocolError}

@@ -1,7 +1,7 @@
 -- Elements as they are written: an empty tag where nothing is inside; and the child that holds the features.
 use mathlib.Core.Path.{_≡_, refl, sym, ap, _∙_}
 use mathlib.Core.List.{List, [], _∷_, _++_, append-assoc}
-use mathlib.Core.Bool.{Bool, true, false, cond}
+use mathlib.Core.Bool.{Bool, true, false}
 use Prim.Native.Nat.{ℕ, suc, _<_}
 use Prim.Native.Char.{code}
 use native.Mathlib.Omega.{arith}
@@ -14,7 +14,7 @@ use Rattle.grammar.specs.Tree.{tree, no-trees}
 use Rattle.grammar.specs.Element.{Tag, Element, empty, full, Content, bare, child, spellElement, spellContent, GoodTag, GoodElement, good-empty, good-full, GoodContent, good-bare, good-child, readAttributes, readElement, readContent}
 use Rattle.table.specs.Says.{notes, noted}
 use Rattle.message.specs.declared.values.Features.{Features}
-use Rattle.meant.specs.Written.{closed, emptyTag, featuresInside}
+use Rattle.meant.specs.Written.{closed, featuresInside}
 use Rattle.meant.proofs.ValueLaws.{featuresChild}
 use Rattle.meant.proofs.RowLaws.{named}
 
@@ -84,10 +84,6 @@ flagged false n c = c
 flagged-good : {d : ℕ} {c : Content} (b : Bool) (n : Bytes) → Name n → GoodContent (suc d) c → GoodContent (suc d) (flagged b n c)
 flagged-good true n h g = good-child bits-end (good-empty (good-tag h no-attributes)) g
 flagged-good false n h g = g
-
-flagged-spelt : (b : Bool) (n : Bytes) (c : Content) → cond b (emptyTag n) [] ++ spellContent c ≡ spellContent (flagged b n c)
-flagged-spelt true n c = refl
-flagged-spelt false n c = refl
 
 -- the children of the features
 abbrev inside : Bool → Bool → Bool → Content

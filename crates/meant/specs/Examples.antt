@@ -1,6 +1,6 @@
 -- Worked examples: the bytes of messages of each kind, and what may be sent at the ends of each range and just beyond. They hold by computation.
 use mathlib.Core.Path.{_≡_, refl}
-use mathlib.Core.List.{List, [], _∷_, _++_}
+use mathlib.Core.List.{List, [], _∷_}
 use mathlib.Core.Bool.{Bool, true, false}
 use Prim.Native.Nat.{ℕ, zero, suc}
 use Prim.Native.String.{String}
@@ -21,7 +21,7 @@ use Rattle.message.specs.Cells.{cellsOf, fieldsFrom, fieldBy, wordsBy, wholeBy,
 use Rattle.message.specs.Messages.{messageFrom, fieldsOf, withZeros}
 use Rattle.message.specs.declared.values.Whole.the-variants.{Absent as NoWhole, Present as IsWhole}
 use Rattle.message.specs.declared.values.Measure.the-variants.{Absent as NoMeasure, Present as IsMeasure}
-use Rattle.meant.specs.Meant.{sendable, textMeant, wholeMeant, measureMeant, idMeant, featuresMeant, meantBy, meantOf, meantIn, refusedIn, refusalOf}
+use Rattle.meant.specs.Meant.{textMeant, wholeMeant, measureMeant, idMeant, featuresMeant, meantBy, meantOf, meantIn, refusedIn, refusalOf}
 use Rattle.meant.specs.Written.{attributeOf, attributesOf, childOf, childrenOf, writtenIn, writtenOf}
 use Rattle.meant.specs.Notices.{description, notice}
 

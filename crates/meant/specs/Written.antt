@@ -2,7 +2,7 @@
 use mathlib.Core.List.{List, [], _∷_, _++_}
 use mathlib.Core.Bool.{cond}
 use Prim.Native.Nat.{ℕ}
-use Rattle.grammar.specs.Bytes.{Bytes, text, nonEmpty}
+use Rattle.grammar.specs.Bytes.{Bytes, text}
 use Rattle.number.specs.Digits.{printInt}
 use Rattle.spelling.specs.Written.{escape, printDecimal}
 use Rattle.value.specs.declared.text.Words.the-variants.{Absent as NoWords, Present as IsWords}

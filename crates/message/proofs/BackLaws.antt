@@ -16,7 +16,7 @@ use Rattle.value.specs.declared.text.Words.the-variants.{Absent as NoWords, Pre
 use Rattle.table.specs.Table.{Row, Form, words, someWords, whole, guid, version, positive, features, rowsOf, isGuid}
 use Rattle.table.specs.Says.{Result, absent, present, refused, aText, anInt, millionths, anId, noted, tried}
 use Rattle.message.specs.Fields.{Field, none, aWords, aWhole, aMeasure, aGuid, aFeatures, noFeatures, bare, bares, idIn, featuresIn, placedBy, fieldFor, fieldsIn}
-use Rattle.message.specs.Cells.{NUMBERS, isThere, wordsBy, wholeBy, measureBy, guidBy, featuresBy, fieldBy, cellAt, fieldsFrom, flag, wordsCell, cellOf, cellsOf}
+use Rattle.message.specs.Cells.{NUMBERS, isThere, wordsBy, wholeBy, measureBy, guidBy, featuresBy, fieldBy, cellAt, fieldsFrom, flag, cellOf, cellsOf}
 use Rattle.message.specs.Messages.{withZeros, bytesIn, idAmong, messageFrom, fieldsOf, idOf}
 use Rattle.message.specs.Checked.{messageOf}
 use Rattle.message.specs.declared.values.Whole.the-variants.{Absent as NoWhole, Present as IsWhole}

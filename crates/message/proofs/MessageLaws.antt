@@ -13,7 +13,7 @@ use Rattle.table.specs.Theorems.{plainNeed, rows-table}
 use Rattle.message.specs.Fields.{placedBy, fieldsIn}
 use Rattle.message.specs.Cells.{cellsOf}
 use Rattle.message.specs.Messages.{withZeros, messageFrom, blank}
-use Rattle.message.specs.Checked.{unread, messageOf, judgedTo}
+use Rattle.message.specs.Checked.{messageOf, judgedTo}
 use Rattle.message.specs.declared.cells.Message.{Message}
 use Rattle.message.specs.declared.checking.Checked.{Checked}
 
@@ -41,6 +41,3 @@ is-refused n start end k m h e = ap (answered n start end) (e ∙ sym (ap (λ (z
 
 pub is-accepted : (n start end k : ℕ) (m : Message) → n ≡ 0 → answered n start end m ≡ judgedTo start end k n m
 is-accepted n start end k m h = ap (answered n start end) (sym (ap (λ (z : Bool). cond z m (blank k)) (eq-eqb n 0 h)))
-
-pub is-unread : (n start place : ℕ) {b : Message} → b ≡ blank 0 → _≡_ {A = Checked} (record { refusal = n; start = start; end = 0; place = place; message = b }) (unread n start place)
-is-unread n start place e = cc

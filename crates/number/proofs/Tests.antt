@@ -2,10 +2,9 @@
 use mathlib.Core.Path.{_≡_, refl, sym, _∙_}
 use mathlib.Core.Bool.{Bool, true, false}
 use Prim.Native.Nat.{ℕ, _≤_}
-use Prim.Native.Char.{code}
 use native.Mathlib.Omega.{arith}
 use lib.Dec.{eqb, leb}
-use borrow.Author.Tests.{leb-true, eqb-true, ne-eqb, lt-leb}
+use borrow.Author.Tests.{leb-true, ne-eqb, lt-leb}
 use Rattle.number.specs.Bytes.{and, blank, digit}
 
 -- a value by the two cases of a test
@@ -45,7 +44,3 @@ unfolding blank
 digit-no-blank b h =
     let low : 48 ≤ b = digit-low b h in
     rw (lt-leb b 10 (omega arith), and-false (leb 9 b), ne-eqb b 13 (λ e. omega arith), ne-eqb b 32 (λ e. omega arith))
-
-pub point-no-digit : (b : ℕ) → eqb b (code ".") ≡ true → digit b ≡ false
-unfolding digit
-point-no-digit b h = rw (eqb-true b (code ".") h)

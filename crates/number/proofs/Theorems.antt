@@ -36,9 +36,6 @@ unfolding paper wholeRead capped
 paper-read noInt = refl
 paper-read (int b n) = refl
 
-pub int-answer : (v : Bytes) (r : WholeRead) → paper r ≡ capped (intOf v) → r ≡ wholeRead (intOf v)
-int-answer v r h = int-only v r (wholeRead (intOf v)) h (paper-read (intOf v))
-
 pub number-only : (v : Bytes) (r q : NumberRead) → r ≡ numberRead (numberOf v) (decimalsOf v) → q ≡ numberRead (numberOf v) (decimalsOf v) → r ≡ q
 number-only v r q h k = value-only (numberRead (numberOf v) (decimalsOf v)) r q h k
 

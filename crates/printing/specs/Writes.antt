@@ -56,11 +56,6 @@ pub put-starts : (o m : Bytes) → length m ≤ length o → putAt o 0 m ≡ m +
 unfolding putAt
 put-starts o m h = simp (sub-zero, zero-add, take-all (length o) m h)
 
--- an empty buffer stays so
-pub put-measures : (o : Bytes) (at : ℕ) (m : Bytes) → length o ≡ 0 → putAt o at m ≡ o
-put-measures [] at m h = put-empty at m
-put-measures (x ∷ o) at m h = absurd (omega arith)
-
 -- nothing written
 pub wrote-none : (o : Bytes) (at : ℕ) → Wrote o at [] o at
 wrote-none o at = record { bytes = sym (put-none o at); next = sym (add-zero at); long = refl }

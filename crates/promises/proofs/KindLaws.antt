@@ -1,11 +1,10 @@
 -- What the chart lets pass to be sent is a kind of the table.
 use mathlib.Core.Path.{_≡_, refl, sym, ap, _∙_}
-use mathlib.Core.Bool.{Bool, true, false, cond}
+use mathlib.Core.Bool.{Bool, true, false}
 use mathlib.Core.Logic.{⊎-elim}
 use Prim.Native.Nat.{ℕ}
 use native.Mathlib.Omega.{arith}
-use lib.ListN.{length}
-use lib.Dec.{eqb, leb}
+use lib.Dec.{eqb}
 use borrow.Author.Tests.{eqb-true}
 use Rattle.lane.specs.Chart.{isFree, Sent as IsSent, chart, next}
 use Rattle.lane.specs.Record.{carriesOwn, stepOut, sent}
@@ -17,11 +16,9 @@ use Rattle.lane.specs.declared.chart.Step.the-variants.{To, NoTransition}
 use Rattle.grammar.specs.Bytes.{Bytes}
 use Rattle.message.specs.declared.cells.Message.{Message}
 use Rattle.table.specs.Table.{table, isKind}
-use Rattle.meant.specs.Meant.{refusalOf}
-use Rattle.meant.specs.Written.{writtenOf}
 use Rattle.meant.specs.Writes as emits
 use Rattle.meant.specs.Events.{eventSent}
-use Rattle.promises.specs.Sending.{kept, movedBy}
+use Rattle.promises.specs.Sending.{movedBy}
 
 -- a kind that the chart lets pass is one of the table
 kindRow : ℕ → ℕ → ℕ → ℕ → Bool

@@ -7,7 +7,6 @@ use Prim.Native.String.{String}
 use native.Mathlib.Omega.{arith}
 use lib.ListN.{length, take, drop, length-drop}
 use lib.Seq.{drop-append-le, take-append-le, take-all}
-use lib.Dec.{eqb}
 use Rattle.exact.specs.Chain.{clash}
 use Rattle.grammar.specs.Bytes.{Bytes, text}
 use Rattle.grammar.specs.Tree.{Pair, Tree}

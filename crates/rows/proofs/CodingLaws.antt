@@ -137,10 +137,6 @@ pub few-rows : ROWS ≤ 255
 unfolding numbers table
 few-rows = leb-true ROWS 255 refl
 
-pub few-kinds : KINDS ≤ 255
-unfolding table
-few-kinds = leb-true KINDS 255 refl
-
 pub few-lines : LINES ≤ 255
 unfolding table
 few-lines = leb-true LINES 255 refl

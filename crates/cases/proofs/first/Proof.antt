@@ -6,17 +6,8 @@ use lib.Seq.{length-take-le}
 use Rattle.cases.proofs.first.Statement.{statement}
 use Rattle.cases.proofs.first.Tie as tie
 
-returns : tie.Need-returns
-returns c = search needs
-
 slice-aggregate-put : tie.Need-slice-aggregate-put
 slice-aggregate-put c = sym (length-take-le _ _ (omega arith))
 
-put-requires : tie.Need-put-requires
-put-requires c κs = search needs
-
-returns-2 : tie.Need-returns-2
-returns-2 c = search needs
-
 pub first-spec : {M : Type 1} → statement M
-first-spec = tie.close (tie.spec returns slice-aggregate-put put-requires returns-2)
+first-spec = tie.close (tie.spec (λ c. search needs) slice-aggregate-put (λ c κs. search needs) (λ c. search needs))

@@ -18,9 +18,6 @@ Inv-loop s base table count numbers names features from n i₀ i = Tried-so-far 
 abbrev μ-loop : tie.MeasureT-loop
 μ-loop s base table count numbers names features from n i₀ i = n - i
 
-rows-of-requires : tie.Need-rows-of-requires Inv-loop μ-loop
-rows-of-requires c κs = tt
-
 loop-holds : tie.Need-loop-holds Inv-loop μ-loop
 loop-holds c = rule-starts (c .before .before .before .before .before .before .args .s .now) (c .before .before .before .before .before .before .args .base) (c .before .before .before .before .before .before .args .table .now) (c .before .before .before .before .before .before .args .count) (c .before .before .before .before .before .before .args .sort .features) (c .before .rows-of .result .from) (c .before .rows-of .result .count)
 
@@ -48,11 +45,8 @@ loop-less c = let u = c .before .before .before .loop-test .taken in omega arith
 loop-again : tie.Need-loop-again Inv-loop μ-loop
 loop-again c = rule-goes-on (c .before .before .before .before .before .before .before .before .before .before .before .args .s .now) (c .before .before .before .before .before .before .before .before .before .before .before .args .base) (c .before .before .before .before .before .before .before .before .before .before .before .args .table .now) (c .before .before .before .before .before .before .before .before .before .before .before .args .count) (c .before .before .before .before .before .before .before .before .before .before .before .args .sort .features) (c .before .before .before .before .before .before .rows-of .result .from) (c .before .before .before .before .before .before .rows-of .result .count) (c .before .before .before .before .loop .inv) (c .before .before .before .loop-test .taken) (subst (λ (x : Coded). Rowed (c .before .before .before .before .before .before .before .before .before .before .before .args .s .now) (c .before .before .before .before .before .before .before .before .before .before .before .args .base) (c .before .before .before .before .before .before .before .before .before .before .before .args .table .now) (c .before .before .before .before .before .before .before .before .before .before .before .args .count) (c .before .before .before .before .before .before .before .before .before .before .before .args .sort .features) x (c .before .try-row .result)) (c .before .before .row-at .ensures) (c .before .try-row .ensures)) (c .if1 .left)
 
-none-requires : tie.Need-none-requires Inv-loop μ-loop
-none-requires c κs = tt
-
 returns-2 : tie.Need-returns-2 Inv-loop μ-loop
 returns-2 c = rule-ends (c .before .before .before .before .before .before .before .before .before .args .s .now) (c .before .before .before .before .before .before .before .before .before .args .base) (c .before .before .before .before .before .before .before .before .before .args .table .now) (c .before .before .before .before .before .before .before .before .before .args .count) (c .before .before .before .before .before .before .before .before .before .args .sort .features) (c .before .before .before .before .rows-of .result .from) (c .before .before .before .before .rows-of .result .count) (c .before .before .before .before .before .before .before .before .before .args .sort) (c .before .before .before .before .rows-of .ensures .all) (only-features (c .before .before .before .before .before .before .before .before .before .args .sort) (c .before .before .before .before .rows-of .ensures)) (c .before .before .loop .inv) (c .before .loop-test .left) (c .none .ensures)
 
 pub rule-spec : {M : Type 1} → statement M
-rule-spec = tie.close (tie.spec Inv-loop μ-loop rows-of-requires loop-holds add-row-at row-at-requires try-row-requires value-of-requires returns add-i loop-less loop-again none-requires returns-2)
+rule-spec = tie.close (tie.spec Inv-loop μ-loop (λ c κs. tt) loop-holds add-row-at row-at-requires try-row-requires value-of-requires returns add-i loop-less loop-again (λ c κs. tt) returns-2)

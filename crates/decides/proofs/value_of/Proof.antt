@@ -8,12 +8,6 @@ use Rattle.decides.proofs.value_of.Tie as tie
 returns : tie.Need-returns
 returns c = child-stands (c .before .before .before .before .args .row) (c .if1 .taken) refl
 
-name-at-requires : tie.Need-name-at-requires
-name-at-requires c κs = search needs
-
-find-requires : tie.Need-find-requires
-find-requires c κs = search needs
-
 returns-2 : tie.Need-returns-2
 returns-2 c = attribute-stands (c .before .before .before .before .before .before .args .row) (c .before .before .if1 .left) (c .before .name-at .ensures) (c .find .ensures)
 
@@ -22,6 +16,6 @@ value-of-spec =
     tie.close
     (tie.spec
     returns
-    name-at-requires
-    find-requires
+    (λ c κs. search needs)
+    (λ c κs. search needs)
     returns-2)

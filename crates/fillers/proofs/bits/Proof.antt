@@ -35,20 +35,8 @@ returns-2 c = fill-short _ _ _ _ (c .before .before .before .before .before .loo
 add-if2 : tie.Need-add-if2 Inv-loop μ-loop
 add-if2 c = let g = known-gap (c .before .before .r .given .1) (c .before .before .before .before .gap .ensures) in let h = g .says .1 in omega arith
 
-shared-slice-read-if2 : tie.Need-shared-slice-read-if2 Inv-loop μ-loop
-shared-slice-read-if2 c = omega arith
-
-add-t14 : tie.Need-add-t14 Inv-loop μ-loop
-add-t14 c = omega arith
-
 returns-3 : tie.Need-returns-3 Inv-loop μ-loop
 returns-3 c = fill-tag _ _ _ _ (c .before .before .before .before .before .before .before .loop .inv) _ (known-gap (c .before .before .before .before .r .given .1) (c .before .before .before .before .before .before .gap .ensures)) (omega arith) (c .if2 .taken)
-
-add-comment : tie.Need-add-comment Inv-loop μ-loop
-add-comment c = omega arith
-
-comment-requires : tie.Need-comment-requires Inv-loop μ-loop
-comment-requires c κs = omega arith
 
 enum-known-r-2 : tie.Need-enum-known-r-2 Inv-loop μ-loop
 enum-known-r-2 c = c .match2 .keys1
@@ -75,11 +63,11 @@ bits-spec =
     sub-if1
     returns-2
     add-if2
-    shared-slice-read-if2
-    add-t14
+    (λ c. omega arith)
+    (λ c. omega arith)
     returns-3
-    add-comment
-    comment-requires
+    (λ c. omega arith)
+    (λ c κs. omega arith)
     enum-known-r-2
     returns-4
     loop-less

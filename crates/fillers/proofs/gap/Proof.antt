@@ -4,20 +4,11 @@ use borrow.Author.Needs.{needs}
 use Rattle.fillers.proofs.gap.Statement.{statement}
 use Rattle.fillers.proofs.gap.Tie as tie
 
-skip-glue-requires : tie.Need-skip-glue-requires
-skip-glue-requires c κs = search needs
-
 returns : tie.Need-returns
 returns c = gap-open _ _ _ (c .before .skip-glue .ensures) _ (c .if1 .taken)
 
-shared-slice-read-if2 : tie.Need-shared-slice-read-if2
-shared-slice-read-if2 c = search needs
-
 returns-2 : tie.Need-returns-2
 returns-2 c = gap-lt _ _ _ (c .before .before .before .skip-glue .ensures) _ (c .before .before .if1 .left) (c .if2 .taken)
-
-text-requires : tie.Need-text-requires
-text-requires c κs = search needs
 
 returns-3 : tie.Need-returns-3
 returns-3 c = below-root (c .before .if3 .taken) (gap-text _ _ _ (c .before .before .before .before .before .skip-glue .ensures) (c .text .ensures))
@@ -29,10 +20,10 @@ pub gap-spec : {M : Type 1} → statement M
 gap-spec =
     tie.close
     (tie.spec
-    skip-glue-requires
+    (λ c κs. search needs)
     returns
-    shared-slice-read-if2
+    (λ c. search needs)
     returns-2
-    text-requires
+    (λ c κs. search needs)
     returns-3
     returns-4)

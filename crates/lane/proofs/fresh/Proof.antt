@@ -3,11 +3,8 @@ use borrow.Author.Needs.{needs}
 use Rattle.lane.proofs.fresh.Statement.{statement}
 use Rattle.lane.proofs.fresh.Tie as tie
 
-none-requires : tie.Need-none-requires
-none-requires c κs = search needs
-
 returns : tie.Need-returns
 returns c = rw (c .none .ensures)
 
 pub fresh-spec : {M : Type 1} → statement M
-fresh-spec = tie.close (tie.spec none-requires returns)
+fresh-spec = tie.close (tie.spec (λ c κs. search needs) returns)

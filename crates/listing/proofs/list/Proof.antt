@@ -15,32 +15,17 @@ Inv-loop buf₀ out₀ w₀ waiting₀ turns₀ buf out w waiting turns = (lengt
 abbrev μ-loop : tie.MeasureT-loop
 μ-loop buf₀ out₀ w₀ waiting₀ turns₀ buf out w waiting turns = turns
 
-opened-requires : tie.Need-opened-requires Inv-loop μ-loop
-opened-requires c κs = tt
-
 loop-holds : tie.Need-loop-holds Inv-loop μ-loop
 loop-holds c = (refl, refl, going-opened _ _ (c .opened .ensures))
 
 made-room-requires : tie.Need-made-room-requires Inv-loop μ-loop
 made-room-requires c κs = (c .before .before .loop .inv .2 .waits, omega arith)
 
-same-length : tie.Need-same-length Inv-loop μ-loop
-same-length c = search needs
-
-same-length-2 : tie.Need-same-length-2 Inv-loop μ-loop
-same-length-2 c = search needs
-
 returns : tie.Need-returns Inv-loop μ-loop
 returns c = ((λ e. absurd (let z : _≡_ {A = ℕ} 0 1 = cc in omega arith)), ((λ e. absurd (let z : _≡_ {A = ℕ} 0 1 = cc in omega arith)), (λ e. absurd (let z : _≡_ {A = ℕ} 0 1 = cc in omega arith))))
 
 topped-up-requires : tie.Need-topped-up-requires Inv-loop μ-loop
 topped-up-requires c κs = (c .before .before .before .before .before .before .loop .inv .2 .held, omega arith)
-
-same-length-3 : tie.Need-same-length-3 Inv-loop μ-loop
-same-length-3 c = search needs
-
-same-length-4 : tie.Need-same-length-4 Inv-loop μ-loop
-same-length-4 c = search needs
 
 returns-2 : tie.Need-returns-2 Inv-loop μ-loop
 returns-2 c = ((λ e. absurd (let z : _≡_ {A = ℕ} 0 1 = cc in omega arith)), ((λ _. going-stops (c .before .before .before .before .before .before .before .before .before .before .loop .inv .2) (c .before .before .before .topped-up .ensures) (c .if2 .taken)), (λ e. absurd (let z : _≡_ {A = ℕ} 0 1 = cc in omega arith))))
@@ -60,20 +45,8 @@ same-length-6 c = omega (arith, c .before .before .before .before .before .out .
 returns-3 : tie.Need-returns-3 Inv-loop μ-loop
 returns-3 c = ((λ _. going-ends (c .before .before .before .before .before .before .before .before .before .before .before .before .before .before .before .before .before .before .before .loop .inv .2) (c .before .before .before .before .before .before .before .before .before .before .before .before .topped-up .ensures) (c .before .before .before .before .before .before .before .before .before .before .before .before .before .before .before .before .made-room .ensures) (c .before .before .before .before .before .before .turn .ensures) (c .before .before .if3 .taken)), ((λ e. absurd (c .ended .ensures .0 e)), (λ e. absurd (c .ended .ensures .1 e))))
 
-sub-turns : tie.Need-sub-turns Inv-loop μ-loop
-sub-turns c = search needs
-
-loop-less : tie.Need-loop-less Inv-loop μ-loop
-loop-less c = search needs
-
 loop-again : tie.Need-loop-again Inv-loop μ-loop
 loop-again c = (search needs, search needs, going-on (c .before .before .before .before .before .before .before .before .before .before .before .before .before .before .before .before .before .loop .inv .2) (c .before .before .before .before .before .before .before .before .before .before .topped-up .ensures) (c .before .before .before .before .before .before .before .before .before .before .before .before .before .before .made-room .ensures) (c .before .before .before .before .turn .ensures) (c .before .before .before .before .before .before .before .before .before .before .before .before .before .before .before .before .before .loop .turns - 1) (omega (arith, c .before .before .before .before .before .before .before .before .before .before .before .before .before .before .before .before .loop-test .taken)) (c .if3 .left))
-
-same-length-7 : tie.Need-same-length-7 Inv-loop μ-loop
-same-length-7 c = search needs
-
-same-length-8 : tie.Need-same-length-8 Inv-loop μ-loop
-same-length-8 c = search needs
 
 returns-4 : tie.Need-returns-4 Inv-loop μ-loop
 returns-4 c = ((λ e. absurd (let z : _≡_ {A = ℕ} 0 1 = cc in omega arith)), ((λ e. absurd (let z : _≡_ {A = ℕ} 0 1 = cc in omega arith)), λ _. going-out (c .before .loop .inv .2) (omega (arith, c .loop-test .left))))
@@ -84,24 +57,24 @@ list-spec =
     (tie.spec
     Inv-loop
     μ-loop
-    opened-requires
+    (λ c κs. tt)
     loop-holds
     made-room-requires
-    same-length
-    same-length-2
+    (λ c. search needs)
+    (λ c. search needs)
     returns
     topped-up-requires
-    same-length-3
-    same-length-4
+    (λ c. search needs)
+    (λ c. search needs)
     returns-2
     turn-requires
     ended-requires
     same-length-5
     same-length-6
     returns-3
-    sub-turns
-    loop-less
+    (λ c. search needs)
+    (λ c. search needs)
     loop-again
-    same-length-7
-    same-length-8
+    (λ c. search needs)
+    (λ c. search needs)
     returns-4)

@@ -4,15 +4,6 @@ use borrow.Author.Needs.{needs}
 use Rattle.lists.proofs.list_step.Statement.{statement}
 use Rattle.lists.proofs.list_step.Tie as tie
 
-slice-aggregate-check-cells : tie.Need-slice-aggregate-check-cells
-slice-aggregate-check-cells c = search needs
-
-check-cells-requires : tie.Need-check-cells-requires
-check-cells-requires c κs = search needs
-
-unfinished-requires : tie.Need-unfinished-requires
-unfinished-requires c κs = search needs
-
 returns : tie.Need-returns
 returns c = shows-unfinished (c .before .before .before .before .before .before .args .last) (c .before .before .before .check-cells .ensures) (c .before .match .keys1) (c .unfinished .ensures)
 
@@ -29,9 +20,9 @@ pub list-step-spec : {M : Type 1} → statement M
 list-step-spec =
     tie.close
     (tie.spec
-    slice-aggregate-check-cells
-    check-cells-requires
-    unfinished-requires
+    (λ c. search needs)
+    (λ c κs. search needs)
+    (λ c κs. search needs)
     returns
     returns-2
     returns-3

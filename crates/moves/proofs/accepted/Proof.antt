@@ -3,18 +3,6 @@ use borrow.Author.Needs.{needs}
 use Rattle.moves.proofs.accepted.Statement.{statement}
 use Rattle.moves.proofs.accepted.Tie as tie
 
-offered-in-requires : tie.Need-offered-in-requires
-offered-in-requires c κs = search needs
-
-running-in-requires : tie.Need-running-in-requires
-running-in-requires c κs = search needs
-
-forecast-in-requires : tie.Need-forecast-in-requires
-forecast-in-requires c κs = search needs
-
-start-order-requires : tie.Need-start-order-requires
-start-order-requires c κs = search needs
-
 returns : tie.Need-returns
 returns c =
     let b = c .before in
@@ -23,4 +11,4 @@ returns c =
 pub accepted-spec : {M : Type 1} → statement M
 accepted-spec =
     tie.close
-    (tie.spec offered-in-requires running-in-requires forecast-in-requires start-order-requires returns)
+    (tie.spec (λ c κs. search needs) (λ c κs. search needs) (λ c κs. search needs) (λ c κs. search needs) returns)

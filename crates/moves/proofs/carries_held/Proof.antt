@@ -10,11 +10,8 @@ returns c = below (c .before .before .args .lane) (c .before .before .args .even
 returns-2 : tie.Need-returns-2
 returns-2 c = above (c .before .before .before .before .args .lane) (c .before .before .before .before .args .event) (c .if2 .taken)
 
-carries-own-requires : tie.Need-carries-own-requires
-carries-own-requires c κs = search needs
-
 returns-3 : tie.Need-returns-3
 returns-3 c = own (c .before .before .before .before .before .args .lane) (c .before .before .before .before .before .args .event) (c .carries-own .ensures)
 
 pub carries-held-spec : {M : Type 1} → statement M
-carries-held-spec = tie.close (tie.spec returns returns-2 carries-own-requires returns-3)
+carries-held-spec = tie.close (tie.spec returns returns-2 (λ c κs. search needs) returns-3)

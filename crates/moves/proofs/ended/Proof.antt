@@ -3,12 +3,6 @@ use borrow.Author.Needs.{needs}
 use Rattle.moves.proofs.ended.Statement.{statement}
 use Rattle.moves.proofs.ended.Tie as tie
 
-lost-requires : tie.Need-lost-requires
-lost-requires c κs = search needs
-
-under-way-requires : tie.Need-under-way-requires
-under-way-requires c κs = search needs
-
 returns : tie.Need-returns
 returns c = rw (c .before .before .lost .ensures, ← c .before .under-way .ensures, c .if1 .taken)
 
@@ -16,4 +10,4 @@ returns-2 : tie.Need-returns-2
 returns-2 c = rw (c .before .before .lost .ensures, ← c .before .under-way .ensures, c .if1 .left)
 
 pub ended-spec : {M : Type 1} → statement M
-ended-spec = tie.close (tie.spec lost-requires under-way-requires returns returns-2)
+ended-spec = tie.close (tie.spec (λ c κs. search needs) (λ c κs. search needs) returns returns-2)

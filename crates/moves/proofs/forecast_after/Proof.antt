@@ -12,22 +12,10 @@ use Rattle.moves.proofs.forecast_after.Tie as tie
 named-same : (held f : Forecast) {g : Forecast} {r z : Bool} → g ≡ righted f → r ≡ sameForecast held g → r ≡ z → sameForecast held (righted f) ≡ z
 named-same held f e h w = rw (← e) (sym h ∙ w)
 
-righted-requires : tie.Need-righted-requires
-righted-requires c κs = search needs
-
 returns : tie.Need-returns
 returns c =
     let m = c .before .before .before in
     rw (m .match .keys1, c .before .before .if1 .taken, c .before .if2 .taken) (c .righted .ensures)
-
-righted-requires-2 : tie.Need-righted-requires-2
-righted-requires-2 c κs = search needs
-
-same-forecast-requires : tie.Need-same-forecast-requires
-same-forecast-requires c κs = search needs
-
-none-requires : tie.Need-none-requires
-none-requires c κs = search needs
 
 returns-2 : tie.Need-returns-2
 returns-2 c =
@@ -62,11 +50,11 @@ pub forecast-after-spec : {M : Type 1} → statement M
 forecast-after-spec =
     tie.close
     (tie.spec
-    righted-requires
+    (λ c κs. search needs)
     returns
-    righted-requires-2
-    same-forecast-requires
-    none-requires
+    (λ c κs. search needs)
+    (λ c κs. search needs)
+    (λ c κs. search needs)
     returns-2
     returns-3
     returns-4

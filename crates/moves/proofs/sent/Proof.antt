@@ -4,24 +4,6 @@ use Rattle.lane.specs.Record as says
 use Rattle.moves.proofs.sent.Statement.{statement}
 use Rattle.moves.proofs.sent.Tie as tie
 
-carries-held-requires : tie.Need-carries-held-requires
-carries-held-requires c κs = search needs
-
-next-requires : tie.Need-next-requires
-next-requires c κs = search needs
-
-enum-known-n : tie.Need-enum-known-n
-enum-known-n c = search needs
-
-accepted-requires : tie.Need-accepted-requires
-accepted-requires c κs = search needs
-
-enum-told : tie.Need-enum-told
-enum-told c = search needs
-
-kept-requires : tie.Need-kept-requires
-kept-requires c κs = search needs
-
 returns : tie.Need-returns
 unfolding says.sent
 returns c =
@@ -40,11 +22,11 @@ pub sent-spec : {M : Type 1} → statement M
 sent-spec =
     tie.close
     (tie.spec
-    carries-held-requires
-    next-requires
-    enum-known-n
-    accepted-requires
-    enum-told
-    kept-requires
+    (λ c κs. search needs)
+    (λ c κs. search needs)
+    (λ c. search needs)
+    (λ c κs. search needs)
+    (λ c. search needs)
+    (λ c κs. search needs)
     returns
     returns-2)

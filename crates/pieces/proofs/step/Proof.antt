@@ -5,23 +5,11 @@ use Rattle.pieces.specs.Says.{stepOf}
 use Rattle.pieces.proofs.step.Statement.{statement}
 use Rattle.pieces.proofs.step.Tie as tie
 
-enum-known-p : tie.Need-enum-known-p
-enum-known-p c = search needs
-
-enum-told : tie.Need-enum-told
-enum-told c = search needs
-
-enum-known-p-2 : tie.Need-enum-known-p-2
-enum-known-p-2 c = search needs
-
 returns : tie.Need-returns
 returns c = sym (ap (stepOf) (c .before .p .given .1))
-
-returns-2 : tie.Need-returns-2
-returns-2 c = search needs
 
 returns-3 : tie.Need-returns-3
 returns-3 c = sym (ap (stepOf) (c .before .p2 .given .1))
 
 pub step-spec : {M : Type 1} → statement M
-step-spec = tie.close (tie.spec enum-known-p enum-told enum-known-p-2 returns returns-2 returns-3)
+step-spec = tie.close (tie.spec (λ c. search needs) (λ c. search needs) (λ c. search needs) returns (λ c. search needs) returns-3)

@@ -6,12 +6,6 @@ use Rattle.scan.proofs.byte.Tie as tie
 returns : tie.Need-returns
 returns c = byte-end _ _ _ (c .if1 .taken)
 
-shared-slice-read-if2 : tie.Need-shared-slice-read-if2
-shared-slice-read-if2 c = search needs
-
-add-t8 : tie.Need-add-t8
-add-t8 c = search needs
-
 returns-2 : tie.Need-returns-2
 returns-2 c = byte-hit _ _ _ (c .before .before .if1 .left) (c .if2 .taken)
 
@@ -19,4 +13,4 @@ returns-3 : tie.Need-returns-3
 returns-3 c = byte-miss _ _ _ (c .before .before .if1 .left) (c .if2 .left)
 
 pub byte-spec : {M : Type 1} → statement M
-byte-spec = tie.close (tie.spec returns shared-slice-read-if2 add-t8 returns-2 returns-3)
+byte-spec = tie.close (tie.spec returns (λ c. search needs) (λ c. search needs) returns-2 returns-3)

@@ -9,9 +9,6 @@ use borrow.Author.Needs.{needs}
 use Rattle.scan.proofs.is_name_byte.Statement.{statement}
 use Rattle.scan.proofs.is_name_byte.Tie as tie
 
-is-letter-requires : tie.Need-is-letter-requires
-is-letter-requires c κs = search needs
-
 returns : tie.Need-returns
 returns c = letter-name _ (sym (c .before .is-letter .ensures) ∙ c .if1 .taken)
 
@@ -43,7 +40,7 @@ pub is-name-byte-spec : {M : Type 1} → statement M
 is-name-byte-spec =
     tie.close
     (tie.spec
-    is-letter-requires
+    (λ c κs. search needs)
     returns
     returns-2
     returns-3

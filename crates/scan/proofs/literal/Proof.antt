@@ -14,38 +14,14 @@ abbrev μ-loop : tie.MeasureT-loop
 loop-holds : tie.Need-loop-holds Inv-loop μ-loop
 loop-holds c = (omega arith, omega arith, rest-none _ _ _)
 
-sub-if1 : tie.Need-sub-if1 Inv-loop μ-loop
-sub-if1 c = omega arith
-
 returns : tie.Need-returns Inv-loop μ-loop
 returns c = record { says = rest-end _ _ _ _ (c .before .loop-test .taken) (c .before .before .loop .inv .2) (omega arith) }
-
-add-if2 : tie.Need-add-if2 Inv-loop μ-loop
-add-if2 c = omega arith
-
-shared-slice-read-if2 : tie.Need-shared-slice-read-if2 Inv-loop μ-loop
-shared-slice-read-if2 c = omega arith
-
-shared-slice-read-if2-2 : tie.Need-shared-slice-read-if2-2 Inv-loop μ-loop
-shared-slice-read-if2-2 c = omega arith
-
-add-t12 : tie.Need-add-t12 Inv-loop μ-loop
-add-t12 c = omega arith
 
 returns-2 : tie.Need-returns-2 Inv-loop μ-loop
 returns-2 c = record { says = (omega arith, omega arith, rest-miss _ _ _ _ (c .before .before .before .before .loop-test .taken) (c .before .before .before .before .before .loop .inv .2) (omega arith) (c .if2 .taken)) }
 
-add-k : tie.Need-add-k Inv-loop μ-loop
-add-k c = omega arith
-
-loop-less : tie.Need-loop-less Inv-loop μ-loop
-loop-less c = omega arith
-
 loop-again : tie.Need-loop-again Inv-loop μ-loop
 loop-again c = (omega arith, omega arith, rest-more _ _ _ _ (c .before .before .before .before .loop-test .taken) (c .before .before .before .before .before .loop .inv .2) (omega arith) (c .if2 .left))
-
-add-t13 : tie.Need-add-t13 Inv-loop μ-loop
-add-t13 c = omega arith
 
 returns-3 : tie.Need-returns-3 Inv-loop μ-loop
 returns-3 c = record { says = (0, omega arith, omega arith, rest-done _ _ _ _ (c .loop-test .left) (c .before .loop .inv .2)) }
@@ -57,15 +33,15 @@ literal-spec =
     Inv-loop
     μ-loop
     loop-holds
-    sub-if1
+    (λ c. omega arith)
     returns
-    add-if2
-    shared-slice-read-if2
-    shared-slice-read-if2-2
-    add-t12
+    (λ c. omega arith)
+    (λ c. omega arith)
+    (λ c. omega arith)
+    (λ c. omega arith)
     returns-2
-    add-k
-    loop-less
+    (λ c. omega arith)
+    (λ c. omega arith)
     loop-again
-    add-t13
+    (λ c. omega arith)
     returns-3)

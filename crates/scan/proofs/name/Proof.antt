@@ -18,35 +18,11 @@ abbrev μ-loop : tie.MeasureT-loop
 returns : tie.Need-returns Inv-loop μ-loop
 returns c = name-open _ _ (c .if1 .taken)
 
-shared-slice-read-b : tie.Need-shared-slice-read-b Inv-loop μ-loop
-shared-slice-read-b c = omega arith
-
-is-name-start-requires : tie.Need-is-name-start-requires Inv-loop μ-loop
-is-name-start-requires c κs = tt
-
-add-i : tie.Need-add-i Inv-loop μ-loop
-add-i c = omega arith
-
 loop-holds : tie.Need-loop-holds Inv-loop μ-loop
 loop-holds c = (omega arith, name-start _ _ (c .before .before .before .if1 .left) (sym (c .before .is-name-start .ensures) ∙ c .if2 .taken))
 
-shared-slice-read-b-2 : tie.Need-shared-slice-read-b-2 Inv-loop μ-loop
-shared-slice-read-b-2 c = omega arith
-
-is-name-byte-requires : tie.Need-is-name-byte-requires Inv-loop μ-loop
-is-name-byte-requires c κs = tt
-
-sub-if4 : tie.Need-sub-if4 Inv-loop μ-loop
-sub-if4 c = omega arith
-
 returns-2 : tie.Need-returns-2 Inv-loop μ-loop
 returns-2 c = name-full _ _ _ (c .before .before .before .before .before .loop .inv .1) (c .before .before .before .before .before .loop .inv .0) (c .before .before .before .before .loop-test .taken) (c .if4 .taken)
-
-add-i-2 : tie.Need-add-i-2 Inv-loop μ-loop
-add-i-2 c = omega arith
-
-loop-less : tie.Need-loop-less Inv-loop μ-loop
-loop-less c = omega arith
 
 loop-again : tie.Need-loop-again Inv-loop μ-loop
 loop-again c = (omega arith, name-next _ _ _ (c .before .before .before .before .before .loop .inv .1) (c .before .before .before .before .before .loop .inv .0) (c .before .before .before .before .loop-test .taken) (sym (c .before .before .is-name-byte .ensures) ∙ c .before .if3 .taken) (c .if4 .left))
@@ -67,16 +43,16 @@ name-spec =
     Inv-loop
     μ-loop
     returns
-    shared-slice-read-b
-    is-name-start-requires
-    add-i
+    (λ c. omega arith)
+    (λ c κs. tt)
+    (λ c. omega arith)
     loop-holds
-    shared-slice-read-b-2
-    is-name-byte-requires
-    sub-if4
+    (λ c. omega arith)
+    (λ c κs. tt)
+    (λ c. omega arith)
     returns-2
-    add-i-2
-    loop-less
+    (λ c. omega arith)
+    (λ c. omega arith)
     loop-again
     returns-3
     returns-4

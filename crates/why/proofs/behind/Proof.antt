@@ -12,18 +12,12 @@ use Rattle.why.proofs.behind.Tie as tie
 returns : tie.Need-returns
 returns c = behind-none (c .if1 .taken) (omega arith)
 
-made-room-requires : tie.Need-made-room-requires
-made-room-requires c κs = search needs
-
 explained-requires : tie.Need-explained-requires
 explained-requires c κs = (c .before .before .before .before .before .before .pre .0, left-room false (length (now (c .before .before .before .before .before .before .args .out))) (c .before .before .before .before .before .before .args .waiting) (c .before .made-room .ensures) (omega arith))
-
-same-length : tie.Need-same-length
-same-length c = search needs
 
 returns-2 : tie.Need-returns-2
 returns-2 c = behind-some (c .before .before .before .before .before .before .if1 .left) (c .before .before .before .before .made-room .ensures) (c .before .before .explained .ensures)
 
 pub behind-spec : {M : Type 1} → statement M
 behind-spec =
-    tie.close (tie.spec returns made-room-requires explained-requires same-length returns-2)
+    tie.close (tie.spec returns (λ c κs. search needs) explained-requires (λ c. search needs) returns-2)

@@ -16,35 +16,14 @@ Inv-loop buf₀ out₀ w₀ waiting₀ turns₀ buf out w waiting turns = (lengt
 abbrev μ-loop : tie.MeasureT-loop
 μ-loop buf₀ out₀ w₀ waiting₀ turns₀ buf out w waiting turns = turns
 
-opened-requires : tie.Need-opened-requires Inv-loop μ-loop
-opened-requires c κs = tt
-
 loop-holds : tie.Need-loop-holds Inv-loop μ-loop
 loop-holds c = (refl, refl, opened-held _ (c .opened .ensures), omega arith)
 
 made-room-requires : tie.Need-made-room-requires Inv-loop μ-loop
 made-room-requires c κs = (c .before .before .loop .inv .3, omega arith)
 
-same-length : tie.Need-same-length Inv-loop μ-loop
-same-length c = search needs
-
-same-length-2 : tie.Need-same-length-2 Inv-loop μ-loop
-same-length-2 c = search needs
-
-returns : tie.Need-returns Inv-loop μ-loop
-returns c = search needs
-
 topped-up-requires : tie.Need-topped-up-requires Inv-loop μ-loop
 topped-up-requires c κs = (c .before .before .before .before .before .before .loop .inv .2, omega arith)
-
-same-length-3 : tie.Need-same-length-3 Inv-loop μ-loop
-same-length-3 c = search needs
-
-same-length-4 : tie.Need-same-length-4 Inv-loop μ-loop
-same-length-4 c = search needs
-
-returns-2 : tie.Need-returns-2 Inv-loop μ-loop
-returns-2 c = search needs
 
 step-requires : tie.Need-step-requires Inv-loop μ-loop
 step-requires c κs = (c .before .before .before .before .before .topped-up .ensures .held, left-room (c .before .before .before .before .before .before .before .before .before .before .before .before .loop .w .dry) (length (c .before .before .before .before .before .before .before .before .before .before .before .before .loop .out)) (c .before .before .before .before .before .before .before .before .before .before .before .before .loop .waiting) (c .before .before .before .before .before .before .before .before .before .made-room .ensures) (omega arith))
@@ -55,9 +34,6 @@ same-length-5 c = omega (arith, c .before .before .before .before .before .befor
 same-length-6 : tie.Need-same-length-6 Inv-loop μ-loop
 same-length-6 c = omega (arith, c .before .before .before .before .out .given, c .before .before .before .before .before .before .before .before .before .before .before .before .before .before .before .before .before .before .loop .inv .1)
 
-returns-3 : tie.Need-returns-3 Inv-loop μ-loop
-returns-3 c = search needs
-
 ended-requires : tie.Need-ended-requires Inv-loop μ-loop
 ended-requires c κs = stepped-inside (c .before .before .before .before .before .before .before .step .ensures)
 
@@ -66,9 +42,6 @@ same-length-7 c = omega (arith, c .before .before .before .before .before .befor
 
 same-length-8 : tie.Need-same-length-8 Inv-loop μ-loop
 same-length-8 c = omega (arith, c .before .before .before .before .before .before .before .out .given, c .before .before .before .before .before .before .before .before .before .before .before .before .before .before .before .before .before .before .before .before .before .loop .inv .1)
-
-returns-4 : tie.Need-returns-4 Inv-loop μ-loop
-returns-4 c = search needs
 
 sub-turns : tie.Need-sub-turns Inv-loop μ-loop
 sub-turns c = omega (arith, c .before .before .before .before .before .before .before .before .before .before .before .before .before .before .before .before .before .before .loop-test .taken)
@@ -79,42 +52,33 @@ loop-less c = omega (arith, c .before .before .before .before .before .before .b
 loop-again : tie.Need-loop-again Inv-loop μ-loop
 loop-again c = (omega (arith, c .before .before .before .before .before .before .before .before .before .before .before .buf .given, c .before .before .before .before .before .before .before .before .before .before .before .before .before .before .before .before .before .before .before .loop .inv .0), omega (arith, c .before .before .before .before .before .out .given, c .before .before .before .before .before .before .before .before .before .before .before .before .before .before .before .before .before .before .before .loop .inv .1), stepped-held (c .before .before .before .before .before .before .step .ensures), stepped-inside (c .before .before .before .before .before .before .step .ensures))
 
-same-length-9 : tie.Need-same-length-9 Inv-loop μ-loop
-same-length-9 c = search needs
-
-same-length-10 : tie.Need-same-length-10 Inv-loop μ-loop
-same-length-10 c = search needs
-
-returns-5 : tie.Need-returns-5 Inv-loop μ-loop
-returns-5 c = search needs
-
 pub explain-spec : {M : Type 1} → statement M
 explain-spec =
     tie.close
     (tie.spec
     Inv-loop
     μ-loop
-    opened-requires
+    (λ c κs. tt)
     loop-holds
     made-room-requires
-    same-length
-    same-length-2
-    returns
+    (λ c. search needs)
+    (λ c. search needs)
+    (λ c. search needs)
     topped-up-requires
-    same-length-3
-    same-length-4
-    returns-2
+    (λ c. search needs)
+    (λ c. search needs)
+    (λ c. search needs)
     step-requires
     same-length-5
     same-length-6
-    returns-3
+    (λ c. search needs)
     ended-requires
     same-length-7
     same-length-8
-    returns-4
+    (λ c. search needs)
     sub-turns
     loop-less
     loop-again
-    same-length-9
-    same-length-10
-    returns-5)
+    (λ c. search needs)
+    (λ c. search needs)
+    (λ c. search needs))

@@ -6,12 +6,6 @@ use borrow.Author.Needs.{needs}
 use Rattle.why.proofs.reason.Statement.{statement}
 use Rattle.why.proofs.reason.Tie as tie
 
-slice-aggregate-put : tie.Need-slice-aggregate-put
-slice-aggregate-put c = search needs
-
-put-requires : tie.Need-put-requires
-put-requires c κs = search needs
-
 put-column-requires : tie.Need-put-column-requires
 put-column-requires c κs = column-fits _ _ _ (omega arith) (omega (arith, c .before .before .before .before .before .before .before .pre, c .before .before .before .put .ensures .next))
 
@@ -24,9 +18,6 @@ put-column-requires-3 c κs = column-fits _ _ _ (omega arith) (omega (arith, c .
 put-column-requires-4 : tie.Need-put-column-requires-4
 put-column-requires-4 c κs = column-fits _ _ _ (omega arith) (omega (arith, c .before .before .before .before .before .before .before .before .before .before .before .before .before .before .before .before .before .before .before .pre, c .before .before .before .before .before .before .before .before .before .before .before .before .before .before .before .put .ensures .next, column-put (omega arith) (c .before .before .before .before .before .before .before .before .before .before .before .put-column .ensures) .reach, column-put (omega arith) (c .before .before .before .before .before .before .before .put-column2 .ensures) .reach, column-put (omega arith) (c .before .before .before .put-column3 .ensures) .reach))
 
-same-length : tie.Need-same-length
-same-length c = search needs
-
 returns : tie.Need-returns
 returns c = reason-put (c .before .before .before .before .before .before .before .before .before .before .before .before .before .before .before .before .before .before .before .before .before .before .pre) (c .before .before .before .before .before .before .before .before .before .before .before .before .before .before .before .before .before .before .put .ensures) (column-put (omega arith) (c .before .before .before .before .before .before .before .before .before .before .before .before .before .before .put-column .ensures)) (column-put (omega arith) (c .before .before .before .before .before .before .before .before .before .before .put-column2 .ensures)) (column-put (omega arith) (c .before .before .before .before .before .before .put-column3 .ensures)) (column-put (omega arith) (c .before .before .put-column4 .ensures))
 
@@ -34,11 +25,11 @@ pub reason-spec : {M : Type 1} → statement M
 reason-spec =
     tie.close
     (tie.spec
-    slice-aggregate-put
-    put-requires
+    (λ c. search needs)
+    (λ c κs. search needs)
     put-column-requires
     put-column-requires-2
     put-column-requires-3
     put-column-requires-4
-    same-length
+    (λ c. search needs)
     returns)

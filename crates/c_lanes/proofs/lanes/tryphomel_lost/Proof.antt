@@ -4,11 +4,8 @@ use borrow.Author.Needs.{needs}
 use Rattle.c_lanes.proofs.lanes.tryphomel_lost.Statement.{statement}
 use Rattle.c_lanes.proofs.lanes.tryphomel_lost.Tie as tie
 
-lost-requires : tie.Need-lost-requires
-lost-requires c κs = search needs
-
 returns : tie.Need-returns
 returns c = lost-parts (c .before .before .before .before .lost .ensures)
 
 pub tryphomel-lost-spec : {M : Type 1} → statement M
-tryphomel-lost-spec = tie.close (tie.spec lost-requires returns)
+tryphomel-lost-spec = tie.close (tie.spec (λ c κs. search needs) returns)

@@ -16,14 +16,8 @@ abbrev μ-loop : tie.MeasureT-loop
 loop-holds : tie.Need-loop-holds Inv-loop μ-loop
 loop-holds c = cleared-none _
 
-mul-cells : tie.Need-mul-cells Inv-loop μ-loop
-mul-cells c = search needs
-
 slice-write-cells : tie.Need-slice-write-cells Inv-loop μ-loop
 slice-write-cells c = c .loop-test .taken
-
-add-i : tie.Need-add-i Inv-loop μ-loop
-add-i c = search needs
 
 loop-less : tie.Need-loop-less Inv-loop μ-loop
 loop-less c = let l = c .before .loop .inv .long in let t = c .loop-test .taken in omega arith
@@ -44,9 +38,9 @@ clear-spec =
     Inv-loop
     μ-loop
     loop-holds
-    mul-cells
+    (λ c. search needs)
     slice-write-cells
-    add-i
+    (λ c. search needs)
     loop-less
     loop-again
     same-length

@@ -16,9 +16,6 @@ abbrev μ-loop : tie.MeasureT-loop
 loop-holds : tie.Need-loop-holds Inv-loop μ-loop
 loop-holds c = filled-none _ _
 
-unit-requires : tie.Need-unit-requires Inv-loop μ-loop
-unit-requires c κs = omega arith
-
 enum-known-p : tie.Need-enum-known-p Inv-loop μ-loop
 enum-known-p c = c .match .keys1
 
@@ -27,9 +24,6 @@ same-length c = c .before .before .before .loop .inv .long
 
 returns : tie.Need-returns Inv-loop μ-loop
 returns c = filled-fail (c .before .before .before .loop .inv) (c .match .keys2) (c .before .unit .ensures)
-
-utf8-len-requires : tie.Need-utf8-len-requires Inv-loop μ-loop
-utf8-len-requires c κs = tt
 
 add-next : tie.Need-add-next Inv-loop μ-loop
 add-next c = let z = counted-room (c .before .before .before .before .before .before .loop .inv .counted) (taken (c .before .before .p .given .1) (c .before .before .before .before .unit .ensures)) (c .utf8-len .ensures) in omega arith
@@ -56,11 +50,11 @@ decode-spec =
     Inv-loop
     μ-loop
     loop-holds
-    unit-requires
+    (λ c κs. omega arith)
     enum-known-p
     same-length
     returns
-    utf8-len-requires
+    (λ c κs. tt)
     add-next
     put-utf8-requires
     loop-less

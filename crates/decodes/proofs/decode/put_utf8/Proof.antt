@@ -24,17 +24,8 @@ add-loop c = let e = c .before .before .before .pre .1 in let u = c .loop .inv .
 utf8-byte-requires : tie.Need-utf8-byte-requires Inv-loop μ-loop
 utf8-byte-requires c κs = let e = c .before .before .before .before .pre .1 in (c .before .before .before .before .pre .0, omega arith)
 
-add-out : tie.Need-add-out Inv-loop μ-loop
-add-out c = omega arith
-
 slice-write-out : tie.Need-slice-write-out Inv-loop μ-loop
 slice-write-out c = let l = c .before .before .loop .inv .long in omega arith
-
-add-k : tie.Need-add-k Inv-loop μ-loop
-add-k c = omega arith
-
-loop-less : tie.Need-loop-less Inv-loop μ-loop
-loop-less c = omega arith
 
 loop-again : tie.Need-loop-again Inv-loop μ-loop
 loop-again c = let e = c .before .before .before .before .before .pre .1 in putting-more (c .before .before .loop .inv) (omega arith) (c .utf8-byte .ensures)
@@ -55,10 +46,10 @@ put-utf8-spec =
     loop-holds
     add-loop
     utf8-byte-requires
-    add-out
+    (λ c. omega arith)
     slice-write-out
-    add-k
-    loop-less
+    (λ c. omega arith)
+    (λ c. omega arith)
     loop-again
     same-length
     returns-2)

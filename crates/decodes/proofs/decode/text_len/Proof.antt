@@ -15,17 +15,11 @@ abbrev μ-loop : tie.MeasureT-loop
 loop-holds : tie.Need-loop-holds Inv-loop μ-loop
 loop-holds c = counted-none _
 
-unit-requires : tie.Need-unit-requires Inv-loop μ-loop
-unit-requires c κs = omega arith
-
 enum-known-p : tie.Need-enum-known-p Inv-loop μ-loop
 enum-known-p c = c .match .keys1
 
 returns : tie.Need-returns Inv-loop μ-loop
 returns c = counted-fail (c .before .before .before .loop .inv) (c .match .keys2) (c .before .unit .ensures)
-
-utf8-len-requires : tie.Need-utf8-len-requires Inv-loop μ-loop
-utf8-len-requires c κs = tt
 
 add-n : tie.Need-add-n Inv-loop μ-loop
 add-n c = let z = counted-room (c .before .before .before .before .before .before .loop .inv) (taken (c .before .before .p .given .1) (c .before .before .before .before .unit .ensures)) (c .utf8-len .ensures) in omega arith
@@ -46,10 +40,10 @@ text-len-spec =
     Inv-loop
     μ-loop
     loop-holds
-    unit-requires
+    (λ c κs. omega arith)
     enum-known-p
     returns
-    utf8-len-requires
+    (λ c κs. tt)
     add-n
     loop-less
     loop-again

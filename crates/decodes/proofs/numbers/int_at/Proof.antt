@@ -9,29 +9,11 @@ use Rattle.decodes.proofs.NumberLaws.{plain-read, walk-read, walk-none}
 use Rattle.decodes.proofs.numbers.int_at.Statement.{statement}
 use Rattle.decodes.proofs.numbers.int_at.Tie as tie
 
-is-plain-requires : tie.Need-is-plain-requires
-is-plain-requires c κs = search needs
-
-int-of-requires : tie.Need-int-of-requires
-int-of-requires c κs = search needs
-
 returns : tie.Need-returns
 returns c = plain-read (c .before .before .is-plain .ensures) (c .before .if1 .taken) (c .int-of .ensures)
 
-walked-requires : tie.Need-walked-requires
-walked-requires c κs = search needs
-
-enum-known-w : tie.Need-enum-known-w
-enum-known-w c = search needs
-
-enum-told : tie.Need-enum-told
-enum-told c = search needs
-
 returns-2 : tie.Need-returns-2
 returns-2 c = walk-none (λ v q. paper q ≡ capped (intOf v)) WholeRead.Bad (c .before .before .walked .ensures) (c .enum-told .given .1) refl
-
-int-end-requires : tie.Need-int-end-requires
-int-end-requires c κs = search needs
 
 returns-3 : tie.Need-returns-3
 returns-3 c = walk-read (λ v q. paper q ≡ capped (intOf v)) WholeRead.Bad (c .before .before .before .before .walked .ensures) (c .before .before .w .given .1) (λ v n e. ap paper (c .int-end .ensures ∙ ap intEnd e) ∙ int-exact v)
@@ -40,12 +22,12 @@ pub int-at-spec : {M : Type 1} → statement M
 int-at-spec =
     tie.close
     (tie.spec
-    is-plain-requires
-    int-of-requires
+    (λ c κs. search needs)
+    (λ c κs. search needs)
     returns
-    walked-requires
-    enum-known-w
-    enum-told
+    (λ c κs. search needs)
+    (λ c. search needs)
+    (λ c. search needs)
     returns-2
-    int-end-requires
+    (λ c κs. search needs)
     returns-3)

@@ -9,30 +9,12 @@ use Rattle.decodes.proofs.NumberLaws.{plain-read, walk-read, walk-none}
 use Rattle.decodes.proofs.numbers.number_at.Statement.{statement}
 use Rattle.decodes.proofs.numbers.number_at.Tie as tie
 
-is-plain-requires : tie.Need-is-plain-requires
-is-plain-requires c κs = search needs
-
-number-of-requires : tie.Need-number-of-requires
-number-of-requires c κs = search needs
-
 returns : tie.Need-returns
 returns c = plain-read (c .before .before .is-plain .ensures) (c .before .if1 .taken) (c .number-of .ensures)
-
-walked-requires : tie.Need-walked-requires
-walked-requires c κs = search needs
-
-enum-known-w : tie.Need-enum-known-w
-enum-known-w c = search needs
-
-enum-told : tie.Need-enum-told
-enum-told c = search needs
 
 returns-2 : tie.Need-returns-2
 unfolding numberRead
 returns-2 c = walk-none (λ v q. q ≡ numberRead (numberOf v) (decimalsOf v)) (numberRead noNumber 0) (c .before .before .walked .ensures) (c .enum-told .given .1) refl
-
-number-end-requires : tie.Need-number-end-requires
-number-end-requires c κs = search needs
 
 returns-3 : tie.Need-returns-3
 returns-3 c = walk-read (λ v q. q ≡ numberRead (numberOf v) (decimalsOf v)) (numberRead noNumber 0) (c .before .before .before .before .walked .ensures) (c .before .before .w .given .1) (λ v n e. c .number-end .ensures ∙ ap numberEnd e ∙ number-exact v (omega arith))
@@ -41,12 +23,12 @@ pub number-at-spec : {M : Type 1} → statement M
 number-at-spec =
     tie.close
     (tie.spec
-    is-plain-requires
-    number-of-requires
+    (λ c κs. search needs)
+    (λ c κs. search needs)
     returns
-    walked-requires
-    enum-known-w
-    enum-told
+    (λ c κs. search needs)
+    (λ c. search needs)
+    (λ c. search needs)
     returns-2
-    number-end-requires
+    (λ c κs. search needs)
     returns-3)

@@ -13,14 +13,8 @@ Inv-loop raw s₀ i₀ s i = Scanned raw i s
 abbrev μ-loop : tie.MeasureT-loop
 μ-loop raw s₀ i₀ s i = length raw - i
 
-start-requires : tie.Need-start-requires Inv-loop μ-loop
-start-requires c κs = tt
-
 loop-holds : tie.Need-loop-holds Inv-loop μ-loop
 loop-holds c = scanned-none _ (c .start .ensures)
-
-unit-requires : tie.Need-unit-requires Inv-loop μ-loop
-unit-requires c κs = omega arith
 
 enum-known-p : tie.Need-enum-known-p Inv-loop μ-loop
 enum-known-p c = c .match .keys1
@@ -46,9 +40,9 @@ walked-spec =
     (tie.spec
     Inv-loop
     μ-loop
-    start-requires
+    (λ c κs. tt)
     loop-holds
-    unit-requires
+    (λ c κs. omega arith)
     enum-known-p
     returns
     char-step-requires

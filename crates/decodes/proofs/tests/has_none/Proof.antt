@@ -16,20 +16,8 @@ Inv-loop w q i₀ i = every (λ b. not (eqb q b)) w ≡ every (λ b. not (eqb q 
 abbrev μ-loop : tie.MeasureT-loop
 μ-loop w q i₀ i = length w - i
 
-loop-holds : tie.Need-loop-holds Inv-loop μ-loop
-loop-holds c = refl
-
-shared-slice-read-if1 : tie.Need-shared-slice-read-if1 Inv-loop μ-loop
-shared-slice-read-if1 c = omega arith
-
 returns : tie.Need-returns Inv-loop μ-loop
 returns c = every-miss _ (c .before .before .before .before .args .w .now) (c .before .before .before .loop .i) (c .before .before .before .loop .inv) (omega arith) (equal-not _ _ (c .if1 .taken))
-
-add-i : tie.Need-add-i Inv-loop μ-loop
-add-i c = omega arith
-
-loop-less : tie.Need-loop-less Inv-loop μ-loop
-loop-less c = omega arith
 
 loop-again : tie.Need-loop-again Inv-loop μ-loop
 loop-again c = every-hit _ (c .before .before .before .before .args .w .now) (c .before .before .before .loop .i) (c .before .before .before .loop .inv) (omega arith) (other-not _ _ (c .if1 .left))
@@ -43,10 +31,10 @@ has-none-spec =
     (tie.spec
     Inv-loop
     μ-loop
-    loop-holds
-    shared-slice-read-if1
+    (λ c. refl)
+    (λ c. omega arith)
     returns
-    add-i
-    loop-less
+    (λ c. omega arith)
+    (λ c. omega arith)
     loop-again
     returns-2)

@@ -16,23 +16,8 @@ Inv-loop w i₀ i = every (λ b. not (altered b)) w ≡ every (λ b. not (altere
 abbrev μ-loop : tie.MeasureT-loop
 μ-loop w i₀ i = length w - i
 
-loop-holds : tie.Need-loop-holds Inv-loop μ-loop
-loop-holds c = refl
-
-shared-slice-read-is-altered : tie.Need-shared-slice-read-is-altered Inv-loop μ-loop
-shared-slice-read-is-altered c = omega arith
-
-is-altered-requires : tie.Need-is-altered-requires Inv-loop μ-loop
-is-altered-requires c κs = tt
-
 returns : tie.Need-returns Inv-loop μ-loop
 returns c = every-miss _ (c .before .before .before .before .before .before .args .w .now) (c .before .before .before .before .loop .i) (c .before .before .before .before .loop .inv) (omega arith) (denied (c .before .is-altered .ensures) (c .if1 .taken))
-
-add-i : tie.Need-add-i Inv-loop μ-loop
-add-i c = omega arith
-
-loop-less : tie.Need-loop-less Inv-loop μ-loop
-loop-less c = omega arith
 
 loop-again : tie.Need-loop-again Inv-loop μ-loop
 loop-again c = every-hit _ (c .before .before .before .before .before .before .args .w .now) (c .before .before .before .before .loop .i) (c .before .before .before .before .loop .inv) (omega arith) (denied (c .before .is-altered .ensures) (c .if1 .left))
@@ -46,11 +31,11 @@ is-as-read-spec =
     (tie.spec
     Inv-loop
     μ-loop
-    loop-holds
-    shared-slice-read-is-altered
-    is-altered-requires
+    (λ c. refl)
+    (λ c. omega arith)
+    (λ c κs. tt)
     returns
-    add-i
-    loop-less
+    (λ c. omega arith)
+    (λ c. omega arith)
     loop-again
     returns-2)

@@ -14,21 +14,6 @@ Inv-loop w i₀ i = plain w ≡ plain (drop i w)
 abbrev μ-loop : tie.MeasureT-loop
 μ-loop w i₀ i = length w - i
 
-loop-holds : tie.Need-loop-holds Inv-loop μ-loop
-loop-holds c = refl
-
-shared-slice-read-is-plain-char : tie.Need-shared-slice-read-is-plain-char Inv-loop μ-loop
-shared-slice-read-is-plain-char c = omega arith
-
-is-plain-char-requires : tie.Need-is-plain-char-requires Inv-loop μ-loop
-is-plain-char-requires c κs = tt
-
-add-i : tie.Need-add-i Inv-loop μ-loop
-add-i c = omega arith
-
-loop-less : tie.Need-loop-less Inv-loop μ-loop
-loop-less c = omega arith
-
 loop-again : tie.Need-loop-again Inv-loop μ-loop
 loop-again c = every-hit _ (c .before .before .before .before .before .before .args .w .now) (c .before .before .before .before .loop .i) (c .before .before .before .before .loop .inv) (omega arith) (sym (c .before .is-plain-char .ensures) ∙ c .if1 .taken)
 
@@ -44,11 +29,11 @@ is-plain-spec =
     (tie.spec
     Inv-loop
     μ-loop
-    loop-holds
-    shared-slice-read-is-plain-char
-    is-plain-char-requires
-    add-i
-    loop-less
+    (λ c. refl)
+    (λ c. omega arith)
+    (λ c κs. tt)
+    (λ c. omega arith)
+    (λ c. omega arith)
     loop-again
     returns
     returns-2)

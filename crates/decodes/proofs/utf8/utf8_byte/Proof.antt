@@ -6,9 +6,6 @@ use borrow.Author.Needs.{needs}
 use Rattle.decodes.proofs.utf8.utf8_byte.Statement.{statement}
 use Rattle.decodes.proofs.utf8.utf8_byte.Tie as tie
 
-cast-result : tie.Need-cast-result
-cast-result c = search needs
-
 returns : tie.Need-returns
 returns c = let z = below (one-byte _ (c .if1 .taken)) _ (c .before .pre .1) in let y : c .before .args .k ≡ 0 = omega arith in picked (one-byte _ (c .if1 .taken)) (c .before .args .k) (rw y)
 
@@ -34,7 +31,7 @@ pub utf8-byte-spec : {M : Type 1} → statement M
 utf8-byte-spec =
     tie.close
     (tie.spec
-    cast-result
+    (λ c. search needs)
     returns
     of-two-requires
     returns-2

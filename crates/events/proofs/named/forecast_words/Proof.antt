@@ -10,29 +10,8 @@ use Rattle.cells.proofs.cell.Reads as cell-reads
 use Rattle.cells.proofs.text_from.Reads as text-from-reads
 use Rattle.events.proofs.named.forecast_cell.Reads as forecast-cell-reads
 
-forecast-cell-requires : tie.Need-forecast-cell-requires
-forecast-cell-requires c κs = search needs
-
 returns : tie.Need-returns
 returns c = names-none (c .before .before .before .args .kind) (c .before .before .before .args .cells .now) (c .before .forecast-cell .ensures) (c .if1 .taken)
-
-cell-requires : tie.Need-cell-requires
-cell-requires c κs = search needs
-
-add-cell : tie.Need-add-cell
-add-cell c = search needs
-
-cell-requires-2 : tie.Need-cell-requires-2
-cell-requires-2 c κs = search needs
-
-add-cell-2 : tie.Need-add-cell-2
-add-cell-2 c = search needs
-
-cell-requires-3 : tie.Need-cell-requires-3
-cell-requires-3 c κs = search needs
-
-text-from-requires : tie.Need-text-from-requires
-text-from-requires c κs = search needs
 
 returns-2 : tie.Need-returns-2
 returns-2 c = names-one (c .before .before .before .before .before .before .before .args .kind) (c .before .before .before .before .before .before .before .args .cells .now) (c .before .before .before .before .before .forecast-cell .ensures) (let h = c .before .before .before .before .if1 .left in omega arith) (c .before .before .before .cell .ensures) (c .before .before .cell2 .ensures) (c .before .cell3 .ensures) (c .text-from .ensures)
@@ -41,12 +20,12 @@ pub forecast-words-spec : {M : Type 1} → statement M
 forecast-words-spec =
     tie.close
     (tie.spec
-    forecast-cell-requires
+    (λ c κs. search needs)
     returns
-    cell-requires
-    add-cell
-    cell-requires-2
-    add-cell-2
-    cell-requires-3
-    text-from-requires
+    (λ c κs. search needs)
+    (λ c. search needs)
+    (λ c κs. search needs)
+    (λ c. search needs)
+    (λ c κs. search needs)
+    (λ c κs. search needs)
     returns-2)

@@ -17,9 +17,6 @@ Inv-loop v n bytes₀ i₀ bytes i = Copied v bytes i × (n ≡ length v) × (le
 abbrev μ-loop : tie.MeasureT-loop
 μ-loop v n bytes₀ i₀ bytes i = n - i
 
-none-requires : tie.Need-none-requires Inv-loop μ-loop
-none-requires c κs = search needs
-
 returns : tie.Need-returns Inv-loop μ-loop
 returns c = kept-none (c .before .before .before .args .v .now) (let h = c .before .if1 .taken in omega arith) (c .none .ensures)
 
@@ -34,9 +31,6 @@ shared-slice-read-bytes c = let h = c .before .loop-test .taken in omega arith
 
 array-write-bytes : tie.Need-array-write-bytes Inv-loop μ-loop
 array-write-bytes c = let (x, e, k) = c .before .before .loop .inv in let h = c .before .loop-test .taken in let l = c .before .before .before .if1 .left in omega arith
-
-add-i : tie.Need-add-i Inv-loop μ-loop
-add-i c = search needs
 
 loop-less : tie.Need-loop-less Inv-loop μ-loop
 loop-less c = let h = c .before .loop-test .taken in omega arith
@@ -53,12 +47,12 @@ kept-spec =
     (tie.spec
     Inv-loop
     μ-loop
-    none-requires
+    (λ c κs. search needs)
     returns
     loop-holds
     shared-slice-read-bytes
     array-write-bytes
-    add-i
+    (λ c. search needs)
     loop-less
     loop-again
     cast-t11

@@ -6,11 +6,8 @@ use Rattle.events.proofs.sending.without.Reads as reads
 use Rattle.events.proofs.sending.without.Lts as lts
 use Rattle.lane.proofs.ids.Forecast.none.Reads as none-reads
 
-none-requires : tie.Need-none-requires
-none-requires c κs = search needs
-
 returns : tie.Need-returns
 returns c = rw (c .none .ensures)
 
 pub without-spec : {M : Type 1} → statement M
-without-spec = tie.close (tie.spec none-requires returns)
+without-spec = tie.close (tie.spec (λ c κs. search needs) returns)

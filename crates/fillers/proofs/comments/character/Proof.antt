@@ -7,26 +7,11 @@ use Rattle.fillers.proofs.comments.character.Tie as tie
 returns : tie.Need-returns
 returns c = char-open _ _ (c .if1 .taken)
 
-shared-slice-read-if2 : tie.Need-shared-slice-read-if2
-shared-slice-read-if2 c = search needs
-
-add-t7 : tie.Need-add-t7
-add-t7 c = search needs
-
 returns-2 : tie.Need-returns-2
 returns-2 c = char-lt _ _ (c .before .before .if1 .left) (c .if2 .taken)
 
-shared-slice-read-if3 : tie.Need-shared-slice-read-if3
-shared-slice-read-if3 c = search needs
-
-add-t9 : tie.Need-add-t9
-add-t9 c = search needs
-
 returns-3 : tie.Need-returns-3
 returns-3 c = char-amp _ _ (c .before .before .before .before .if1 .left) (c .if3 .taken)
-
-character-requires : tie.Need-character-requires
-character-requires c κs = search needs
 
 returns-4 : tie.Need-returns-4
 returns-4 c = char-other _ _ (c .before .before .before .before .before .if1 .left) (c .before .before .before .if2 .left) (c .before .if3 .left) (c .character .ensures)
@@ -36,11 +21,11 @@ character-spec =
     tie.close
     (tie.spec
     returns
-    shared-slice-read-if2
-    add-t7
+    (λ c. search needs)
+    (λ c. search needs)
     returns-2
-    shared-slice-read-if3
-    add-t9
+    (λ c. search needs)
+    (λ c. search needs)
     returns-3
-    character-requires
+    (λ c κs. search needs)
     returns-4)

@@ -6,15 +6,6 @@ use borrow.Author.Needs.{needs}
 use Rattle.fillers.proofs.comments.comment.Statement.{statement}
 use Rattle.fillers.proofs.comments.comment.Tie as tie
 
-slice-aggregate-literal : tie.Need-slice-aggregate-literal
-slice-aggregate-literal c = search needs
-
-literal-requires : tie.Need-literal-requires
-literal-requires c κs = search needs
-
-enum-known-r : tie.Need-enum-known-r
-enum-known-r c = search needs
-
 returns : tie.Need-returns
 returns c = comment-fails _ _ (c .match .keys2) (c .before .literal .ensures)
 
@@ -28,9 +19,9 @@ pub comment-spec : {M : Type 1} → statement M
 comment-spec =
     tie.close
     (tie.spec
-    slice-aggregate-literal
-    literal-requires
-    enum-known-r
+    (λ c. search needs)
+    (λ c κs. search needs)
+    (λ c. search needs)
     returns
     marks-requires
     returns-2)

@@ -16,9 +16,6 @@ abbrev μ-loop : tie.MeasureT-loop
 loop-holds : tie.Need-loop-holds Inv-loop μ-loop
 loop-holds c = marks-start _ _
 
-run-requires : tie.Need-run-requires Inv-loop μ-loop
-run-requires c κs = omega arith
-
 returns : tie.Need-returns Inv-loop μ-loop
 returns c = marks-end _ _ _ (marks-ran _ _ _ (c .before .before .before .loop .inv) _ (c .before .run .ensures)) (c .if1 .taken)
 
@@ -28,26 +25,11 @@ past-dash-requires c κs = c .if1 .left
 returns-2 : tie.Need-returns-2 Inv-loop μ-loop
 returns-2 c = marks-cut _ _ _ (marks-ran _ _ _ (c .before .before .before .before .before .loop .inv) _ (c .before .before .before .run .ensures)) (c .before .before .if1 .left) _ (c .before .past-dash .ensures) (c .if2 .taken)
 
-shared-slice-read-if3 : tie.Need-shared-slice-read-if3 Inv-loop μ-loop
-shared-slice-read-if3 c = omega arith
-
-add-byte : tie.Need-add-byte Inv-loop μ-loop
-add-byte c = omega arith
-
-byte-requires : tie.Need-byte-requires Inv-loop μ-loop
-byte-requires c κs = omega arith
-
 returns-3 : tie.Need-returns-3 Inv-loop μ-loop
 returns-3 c = marks-shut _ _ _ (marks-ran _ _ _ (c .before .before .before .before .before .before .before .before .loop .inv) _ (c .before .before .before .before .before .before .run .ensures)) (c .before .before .before .before .before .if1 .left) _ (c .before .before .before .before .past-dash .ensures) (c .before .before .before .if2 .left) (c .before .if3 .taken) (c .byte .ensures)
 
-character-requires : tie.Need-character-requires Inv-loop μ-loop
-character-requires c κs = tt
-
 enum-known-p : tie.Need-enum-known-p Inv-loop μ-loop
 enum-known-p c = c .match .keys1
-
-step-requires : tie.Need-step-requires Inv-loop μ-loop
-step-requires c κs = tt
 
 returns-4 : tie.Need-returns-4 Inv-loop μ-loop
 returns-4 c = marks-fail _ _ _ (marks-ran _ _ _ (c .before .before .before .before .before .before .before .before .before .before .loop .inv) _ (c .before .before .before .before .before .before .before .before .run .ensures)) (c .before .before .before .before .before .before .before .if1 .left) _ (c .before .before .before .before .before .before .past-dash .ensures) (c .before .before .before .before .before .if2 .left) (c .before .before .before .if3 .left) (c .before .match .keys2) (c .step .ensures) (c .before .before .character .ensures)
@@ -68,17 +50,17 @@ marks-spec =
     Inv-loop
     μ-loop
     loop-holds
-    run-requires
+    (λ c κs. omega arith)
     returns
     past-dash-requires
     returns-2
-    shared-slice-read-if3
-    add-byte
-    byte-requires
+    (λ c. omega arith)
+    (λ c. omega arith)
+    (λ c κs. omega arith)
     returns-3
-    character-requires
+    (λ c κs. tt)
     enum-known-p
-    step-requires
+    (λ c κs. tt)
     returns-4
     loop-less
     loop-again

@@ -20,17 +20,11 @@ loop-holds c = run-none _ _ _ (c .before .pre)
 sub-loop : tie.Need-sub-loop Inv-loop μ-loop
 sub-loop c = let u = c .loop .inv .upto in omega arith
 
-eight-clear-requires : tie.Need-eight-clear-requires Inv-loop μ-loop
-eight-clear-requires c κs = omega arith
-
 returns : tie.Need-returns Inv-loop μ-loop
 returns c = c .before .before .before .loop .inv
 
 add-i : tie.Need-add-i Inv-loop μ-loop
 add-i c = let u = c .before .before .before .loop .inv .upto in omega arith
-
-loop-less : tie.Need-loop-less Inv-loop μ-loop
-loop-less c = omega arith
 
 loop-again : tie.Need-loop-again Inv-loop μ-loop
 loop-again c = run-many _ _ _ 8 _ (c .before .before .before .loop .inv) (let u = c .before .before .before .loop .inv .upto in omega arith) (c .before .eight-clear .ensures (not-false _ (c .if1 .left)))
@@ -46,9 +40,9 @@ eights-spec =
     μ-loop
     loop-holds
     sub-loop
-    eight-clear-requires
+    (λ c κs. omega arith)
     returns
     add-i
-    loop-less
+    (λ c. omega arith)
     loop-again
     returns-2)

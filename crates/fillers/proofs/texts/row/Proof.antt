@@ -6,12 +6,6 @@ use borrow.Author.Needs.{needs}
 use Rattle.fillers.proofs.texts.row.Statement.{statement}
 use Rattle.fillers.proofs.texts.row.Tie as tie
 
-shared-slice-read-if1 : tie.Need-shared-slice-read-if1
-shared-slice-read-if1 c = search needs
-
-add-result : tie.Need-add-result
-add-result c = search needs
-
 returns : tie.Need-returns
 returns c = rw (eq-eqb 93 _ (sym (c .if1 .taken))) (omega arith)
 
@@ -19,4 +13,4 @@ returns-2 : tie.Need-returns-2
 returns-2 c = rw (ne-eqb 93 _ (λ e. c .if1 .left (sym e)))
 
 pub row-spec : {M : Type 1} → statement M
-row-spec = tie.close (tie.spec shared-slice-read-if1 add-result returns returns-2)
+row-spec = tie.close (tie.spec (λ c. search needs) (λ c. search needs) returns returns-2)

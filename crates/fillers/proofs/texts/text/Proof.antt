@@ -16,29 +16,14 @@ abbrev μ-loop : tie.MeasureT-loop
 loop-holds : tie.Need-loop-holds Inv-loop μ-loop
 loop-holds c = text-start _ _ (c .before .pre)
 
-clear-requires : tie.Need-clear-requires Inv-loop μ-loop
-clear-requires c κs = omega arith
-
 returns : tie.Need-returns Inv-loop μ-loop
 returns c = text-end _ _ _ _ (text-cleared _ _ _ _ (c .before .before .before .loop .inv) _ (c .before .clear .ensures)) (c .if1 .taken)
-
-shared-slice-read-if2 : tie.Need-shared-slice-read-if2 Inv-loop μ-loop
-shared-slice-read-if2 c = omega arith
 
 returns-2 : tie.Need-returns-2 Inv-loop μ-loop
 returns-2 c = text-stop _ _ _ _ (text-cleared _ _ _ _ (c .before .before .before .before .before .loop .inv) _ (c .before .before .before .clear .ensures)) (c .before .before .if1 .left) (c .if2 .taken)
 
-stop-requires : tie.Need-stop-requires Inv-loop μ-loop
-stop-requires c κs = tt
-
-item-requires : tie.Need-item-requires Inv-loop μ-loop
-item-requires c κs = tt
-
 enum-known-p : tie.Need-enum-known-p Inv-loop μ-loop
 enum-known-p c = c .match .keys1
-
-step-requires : tie.Need-step-requires Inv-loop μ-loop
-step-requires c κs = tt
 
 returns-3 : tie.Need-returns-3 Inv-loop μ-loop
 returns-3 c = text-fail _ _ _ _ (text-cleared _ _ _ _ (c .before .before .before .before .before .before .before .before .before .loop .inv) _ (c .before .before .before .before .before .before .before .clear .ensures)) (c .before .before .before .before .before .before .if1 .left) (c .before .before .before .before .if2 .left) (c .before .before .before .stop .ensures) (c .before .match .keys2) (c .step .ensures) (c .before .before .item .ensures)
@@ -62,14 +47,14 @@ text-spec =
     Inv-loop
     μ-loop
     loop-holds
-    clear-requires
+    (λ c κs. omega arith)
     returns
-    shared-slice-read-if2
+    (λ c. omega arith)
     returns-2
-    stop-requires
-    item-requires
+    (λ c κs. tt)
+    (λ c κs. tt)
     enum-known-p
-    step-requires
+    (λ c κs. tt)
     returns-3
     row-requires
     loop-less

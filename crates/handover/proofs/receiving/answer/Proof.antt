@@ -11,20 +11,8 @@ use Rattle.written_back.proofs.notify.Reads as notify-reads
 returns : tie.Need-returns
 returns c = answers-nothing-yet (c .before .before .before .args .out .now) (c .if1 .taken)
 
-notify-requires : tie.Need-notify-requires
-notify-requires c κs = search needs
-
-same-length : tie.Need-same-length
-same-length c = search needs
-
 returns-2 : tie.Need-returns-2
 returns-2 c = answers-notice (c .before .before .before .before .before .if1 .left) (c .before .before .before .before .if2 .taken) (c .before .before .notify .ensures)
-
-reply-requires : tie.Need-reply-requires
-reply-requires c κs = search needs
-
-same-length-2 : tie.Need-same-length-2
-same-length-2 c = search needs
 
 returns-3 : tie.Need-returns-3
 returns-3 c = answers-reply (c .before .before .before .before .before .if2 .left) (c .before .before .before .before .if3 .taken) (c .before .before .before .before .before .before .before .before .before .pre) (c .before .before .reply .ensures)
@@ -37,10 +25,10 @@ answer-spec =
     tie.close
     (tie.spec
     returns
-    notify-requires
-    same-length
+    (λ c κs. search needs)
+    (λ c. search needs)
     returns-2
-    reply-requires
-    same-length-2
+    (λ c κs. search needs)
+    (λ c. search needs)
     returns-3
     returns-4)

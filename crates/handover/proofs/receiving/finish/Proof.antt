@@ -11,32 +11,11 @@ use Rattle.handover.proofs.receiving.refused.Reads as refused-reads
 use Rattle.handover.proofs.receiving.told.Reads as told-reads
 use Rattle.cells.proofs.clear.Reads as clear-reads
 
-clear-requires : tie.Need-clear-requires
-clear-requires c κs = search needs
-
-no-room-requires : tie.Need-no-room-requires
-no-room-requires c κs = search needs
-
-same-length : tie.Need-same-length
-same-length c = search needs
-
 returns : tie.Need-returns
 returns c = lacks-room (c .before .before .before .before .before .if1 .taken) (c .before .before .before .clear .ensures) (c .no-room .ensures)
 
-clear-requires-2 : tie.Need-clear-requires-2
-clear-requires-2 c κs = search needs
-
-refused-requires : tie.Need-refused-requires
-refused-requires c κs = search needs
-
-same-length-2 : tie.Need-same-length-2
-same-length-2 c = search needs
-
 returns-2 : tie.Need-returns-2
 returns-2 c = refuses (c .before .before .before .before .before .before .before .if1 .left) (c .before .before .before .before .before .if2 .taken) (c .before .before .before .clear2 .ensures) (c .refused .ensures)
-
-told-requires : tie.Need-told-requires
-told-requires c κs = search needs
 
 returns-3 : tie.Need-returns-3
 returns-3 c = tells (c .before .before .before .if1 .left) (c .before .if2 .left) refl (c .told .ensures)
@@ -45,13 +24,13 @@ pub finish-spec : {M : Type 1} → statement M
 finish-spec =
     tie.close
     (tie.spec
-    clear-requires
-    no-room-requires
-    same-length
+    (λ c κs. search needs)
+    (λ c κs. search needs)
+    (λ c. search needs)
     returns
-    clear-requires-2
-    refused-requires
-    same-length-2
+    (λ c κs. search needs)
+    (λ c κs. search needs)
+    (λ c. search needs)
     returns-2
-    told-requires
+    (λ c κs. search needs)
     returns-3)

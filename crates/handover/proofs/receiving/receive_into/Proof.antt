@@ -22,17 +22,11 @@ found-requires c κs = c .before .before .before .before .pre
 received-event-requires : tie.Need-received-event-requires
 received-event-requires c κs = forecast-cells (c .before .before .before .before .found .ensures)
 
-moved-by-requires : tie.Need-moved-by-requires
-moved-by-requires c κs = search needs
-
 slice-read-asks-reply : tie.Need-slice-read-asks-reply
 slice-read-asks-reply c = let n = c .before .before .before .before .before .before .before .found .ensures .long in omega (arith, n)
 
 slice-read-asks-reply-2 : tie.Need-slice-read-asks-reply-2
 slice-read-asks-reply-2 c = let n = c .before .before .before .before .before .before .before .before .found .ensures .long in omega (arith, n)
-
-asks-reply-requires : tie.Need-asks-reply-requires
-asks-reply-requires c κs = search needs
 
 slice-read-text-from : tie.Need-slice-read-text-from
 slice-read-text-from c = let n = c .before .before .before .before .before .before .before .before .before .before .found .ensures .long in omega (arith, n)
@@ -43,17 +37,8 @@ slice-read-text-from-2 c = let n = c .before .before .before .before .before .be
 slice-read-text-from-3 : tie.Need-slice-read-text-from-3
 slice-read-text-from-3 c = let n = c .before .before .before .before .before .before .before .before .before .before .before .before .found .ensures .long in omega (arith, n)
 
-text-from-requires : tie.Need-text-from-requires
-text-from-requires c κs = search needs
-
 answer-requires : tie.Need-answer-requires
 answer-requires c κs = sound-id (c .before .before .before .before .before .before .before .before .before .before .before .before .before .before .before .before .before .before .before .args .lane) (c .before .before .before .before .before .before .before .before .before .before .before .before .before .before .found .ensures) (c .before .before .before .before .before .before .before .before .before .received-event .ensures) (c .before .before .before .before .before .before .before .before .moved-by .ensures) (c .before .before .before .before .before .asks-reply .ensures) (c .before .text-from .ensures)
-
-finish-requires : tie.Need-finish-requires
-finish-requires c κs = search needs
-
-same-length : tie.Need-same-length
-same-length c = search needs
 
 same-length-2 : tie.Need-same-length-2
 same-length-2 c = finish-long (c .before .before .finish .ensures) ∙ c .before .before .before .before .before .before .before .before .before .before .before .before .before .before .before .before .before .before .before .before .before .found .ensures .long ∙ sym (all-cells (c .before .before .before .before .before .before .before .before .before .before .before .before .before .before .before .before .before .before .before .before .before .before .before .before .before .before .pre))
@@ -67,16 +52,16 @@ receive-into-spec =
     (tie.spec
     found-requires
     received-event-requires
-    moved-by-requires
+    (λ c κs. search needs)
     slice-read-asks-reply
     slice-read-asks-reply-2
-    asks-reply-requires
+    (λ c κs. search needs)
     slice-read-text-from
     slice-read-text-from-2
     slice-read-text-from-3
-    text-from-requires
+    (λ c κs. search needs)
     answer-requires
-    finish-requires
-    same-length
+    (λ c κs. search needs)
+    (λ c. search needs)
     same-length-2
     returns)

@@ -7,12 +7,6 @@ use Rattle.handover.proofs.sending.may_not.Reads as reads
 use Rattle.handover.proofs.sending.may_not.Lts as lts
 use Rattle.writes.proofs.refusal_of_cells.Reads as refusal-of-cells-reads
 
-slice-aggregate-refusal-of-cells : tie.Need-slice-aggregate-refusal-of-cells
-slice-aggregate-refusal-of-cells c = search needs
-
-refusal-of-cells-requires : tie.Need-refusal-of-cells-requires
-refusal-of-cells-requires c κs = search needs
-
 returns : tie.Need-returns
 returns c = refused-first _ _ (c .before .refusal-of-cells .ensures) (c .if1 .taken)
 
@@ -20,4 +14,4 @@ returns-2 : tie.Need-returns-2
 returns-2 c = refused-then _ _ (c .before .refusal-of-cells .ensures) (c .if1 .left)
 
 pub may-not-spec : {M : Type 1} → statement M
-may-not-spec = tie.close (tie.spec slice-aggregate-refusal-of-cells refusal-of-cells-requires returns returns-2)
+may-not-spec = tie.close (tie.spec (λ c. search needs) (λ c κs. search needs) returns returns-2)

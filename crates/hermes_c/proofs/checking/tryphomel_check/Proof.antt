@@ -5,14 +5,8 @@ use borrow.Author.Needs.{needs}
 use Rattle.hermes_c.proofs.checking.tryphomel_check.Statement.{statement}
 use Rattle.hermes_c.proofs.checking.tryphomel_check.Tie as tie
 
-check-into-requires : tie.Need-check-into-requires
-check-into-requires c κs = refl
-
-cast-kind : tie.Need-cast-kind
-cast-kind c = search needs
-
 returns : tie.Need-returns
 returns c = finds (c .before .before .check-into .ensures)
 
 pub tryphomel-check-spec : {M : Type 1} → statement M
-tryphomel-check-spec = tie.close (tie.spec check-into-requires cast-kind returns)
+tryphomel-check-spec = tie.close (tie.spec (λ c κs. refl) (λ c. search needs) returns)

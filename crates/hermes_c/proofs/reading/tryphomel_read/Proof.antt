@@ -14,21 +14,6 @@ use Rattle.hermes_c.proofs.reading.tryphomel_read.Tie as tie
 read-told : (s : Bytes) (r a : Answer) → r ≡ a → Answers s (paper r) → Told s (answerNumber (paper a)) (startOf (paper a)) (placeOf (paper a))
 read-told s r a e p = told s (paper a) (subst (λ (x : Answer). Answers s (paper x)) e p)
 
-read-requires : tie.Need-read-requires
-read-requires c κs = search needs
-
-enum-known-answer : tie.Need-enum-known-answer
-enum-known-answer c = search needs
-
-enum-known-answer-2 : tie.Need-enum-known-answer-2
-enum-known-answer-2 c = search needs
-
-enum-known-answer-3 : tie.Need-enum-known-answer-3
-enum-known-answer-3 c = search needs
-
-enum-known-answer-4 : tie.Need-enum-known-answer-4
-enum-known-answer-4 c = search needs
-
 returns : tie.Need-returns
 returns c = read-told _ _ _ (c .before .answer .given .1) (c .before .before .before .read .ensures)
 
@@ -45,11 +30,11 @@ pub tryphomel-read-spec : {M : Type 1} → statement M
 tryphomel-read-spec =
     tie.close
     (tie.spec
-    read-requires
-    enum-known-answer
-    enum-known-answer-2
-    enum-known-answer-3
-    enum-known-answer-4
+    (λ c κs. search needs)
+    (λ c. search needs)
+    (λ c. search needs)
+    (λ c. search needs)
+    (λ c. search needs)
     returns
     returns-2
     returns-3

@@ -3,11 +3,8 @@ use borrow.Author.Needs.{needs}
 use Rattle.lane.proofs.Lane.lost.Statement.{statement}
 use Rattle.lane.proofs.Lane.lost.Tie as tie
 
-none-requires : tie.Need-none-requires
-none-requires c κs = search needs
-
 returns : tie.Need-returns
 returns c = rw (c .none .ensures)
 
 pub lost-spec : {M : Type 1} → statement M
-lost-spec = tie.close (tie.spec none-requires returns)
+lost-spec = tie.close (tie.spec (λ c κs. search needs) returns)

@@ -4,18 +4,6 @@ use Rattle.moves.proofs.Rows.{from-side, from-other, received-side, rec
 use Rattle.moves.proofs.chart.by_chart.Statement.{statement}
 use Rattle.moves.proofs.chart.by_chart.Tie as tie
 
-table-requires : tie.Need-table-requires
-table-requires c κs = search needs
-
-enum-known-side : tie.Need-enum-known-side
-enum-known-side c = search needs
-
-enum-known-side-2 : tie.Need-enum-known-side-2
-enum-known-side-2 c = search needs
-
-enum-told : tie.Need-enum-told
-enum-told c = search needs
-
 returns : tie.Need-returns
 returns c =
     let e = c .before .before .side .given in
@@ -48,10 +36,10 @@ pub by-chart-spec : {M : Type 1} → statement M
 by-chart-spec =
     tie.close
     (tie.spec
-    table-requires
-    enum-known-side
-    enum-known-side-2
-    enum-told
+    (λ c κs. search needs)
+    (λ c. search needs)
+    (λ c. search needs)
+    (λ c. search needs)
     returns
     returns-2
     returns-3

@@ -6,12 +6,6 @@ use Rattle.moves.proofs.Among.{not-free}
 use Rattle.moves.proofs.chart.next.Statement.{statement}
 use Rattle.moves.proofs.chart.next.Tie as tie
 
-may-name-requires : tie.Need-may-name-requires
-may-name-requires c κs = search needs
-
-by-chart-requires : tie.Need-by-chart-requires
-by-chart-requires c κs = search needs
-
 returns : tie.Need-returns
 unfolding says.next
 returns c =
@@ -38,4 +32,4 @@ returns-5 c =
 pub next-spec : {M : Type 1} → statement M
 next-spec =
     tie.close
-    (tie.spec may-name-requires by-chart-requires returns returns-2 returns-3 returns-4 returns-5)
+    (tie.spec (λ c κs. search needs) (λ c κs. search needs) returns returns-2 returns-3 returns-4 returns-5)

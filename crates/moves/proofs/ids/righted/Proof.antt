@@ -15,35 +15,14 @@ Inv-loop n from bytes₀ end i₀ bytes i = (i ≤ n) × (n ≤ 80) × (end ≡ 
 abbrev μ-loop : tie.MeasureT-loop
 μ-loop n from bytes₀ end i₀ bytes i = n - i
 
-none-requires : tie.Need-none-requires Inv-loop μ-loop
-none-requires c κs = search needs
-
 returns : tie.Need-returns Inv-loop μ-loop
 returns c = c .none .ensures ∙ righted-none (c .before .before .args .forecast) (c .before .if1 .taken)
-
-none-requires-2 : tie.Need-none-requires-2 Inv-loop μ-loop
-none-requires-2 c κs = search needs
 
 returns-2 : tie.Need-returns-2 Inv-loop μ-loop
 returns-2 c = c .none2 .ensures ∙ righted-over (c .before .before .before .args .forecast) (c .before .if2 .taken)
 
-cast-end : tie.Need-cast-end Inv-loop μ-loop
-cast-end c = search needs
-
 loop-holds : tie.Need-loop-holds Inv-loop μ-loop
 loop-holds c = (omega arith, omega arith, refl, search needs, refl)
-
-array-read-bytes : tie.Need-array-read-bytes Inv-loop μ-loop
-array-read-bytes c = omega arith
-
-array-write-bytes : tie.Need-array-write-bytes Inv-loop μ-loop
-array-write-bytes c = omega arith
-
-add-i : tie.Need-add-i Inv-loop μ-loop
-add-i c = omega arith
-
-loop-less : tie.Need-loop-less Inv-loop μ-loop
-loop-less c = omega arith
 
 loop-again : tie.Need-loop-again Inv-loop μ-loop
 loop-again c =
@@ -64,15 +43,15 @@ righted-spec =
     (tie.spec
     Inv-loop
     μ-loop
-    none-requires
+    (λ c κs. search needs)
     returns
-    none-requires-2
+    (λ c κs. search needs)
     returns-2
-    cast-end
+    (λ c. search needs)
     loop-holds
-    array-read-bytes
-    array-write-bytes
-    add-i
-    loop-less
+    (λ c. omega arith)
+    (λ c. omega arith)
+    (λ c. omega arith)
+    (λ c. omega arith)
     loop-again
     returns-3)

@@ -6,20 +6,11 @@ use borrow.Author.Needs.{needs}
 use Rattle.numerals.proofs.ahead.scanned.Statement.{statement}
 use Rattle.numerals.proofs.ahead.scanned.Tie as tie
 
-shared-slice-read-is-digit : tie.Need-shared-slice-read-is-digit
-shared-slice-read-is-digit c = search needs
-
-is-digit-requires : tie.Need-is-digit-requires
-is-digit-requires c κs = search needs
-
 whole-ahead-requires : tie.Need-whole-ahead-requires
 whole-ahead-requires c κs = (c .before .before .before .if1 .taken, sym (c .before .is-digit .ensures) ∙ c .if2 .taken)
 
 returns : tie.Need-returns
 returns c = c .whole-ahead .ensures
-
-start-requires : tie.Need-start-requires
-start-requires c κs = search needs
 
 stepped-requires : tie.Need-stepped-requires
 unfolding run
@@ -32,10 +23,10 @@ pub scanned-spec : {M : Type 1} → statement M
 scanned-spec =
     tie.close
     (tie.spec
-    shared-slice-read-is-digit
-    is-digit-requires
+    (λ c. search needs)
+    (λ c κs. search needs)
     whole-ahead-requires
     returns
-    start-requires
+    (λ c κs. search needs)
     stepped-requires
     returns-2)

@@ -17,18 +17,6 @@ abbrev μ-loop : tie.MeasureT-loop
 loop-holds : tie.Need-loop-holds Inv-loop μ-loop
 loop-holds c = record { upto = c .before .pre .0; is = c .before .pre .1 }
 
-shared-slice-read-step : tie.Need-shared-slice-read-step Inv-loop μ-loop
-shared-slice-read-step c = omega arith
-
-step-requires : tie.Need-step-requires Inv-loop μ-loop
-step-requires c κs = tt
-
-add-i : tie.Need-add-i Inv-loop μ-loop
-add-i c = omega arith
-
-loop-less : tie.Need-loop-less Inv-loop μ-loop
-loop-less c = omega arith
-
 loop-again : tie.Need-loop-again Inv-loop μ-loop
 loop-again c = passed-more start _ (c .before .before .before .loop .inv) (c .before .before .loop-test .taken) refl (c .step .ensures)
 
@@ -36,4 +24,4 @@ returns : tie.Need-returns Inv-loop μ-loop
 returns c = passed-all start _ (c .before .loop .inv) (c .loop-test .left)
 
 pub stepped-spec : {M : Type 1} → statement M
-stepped-spec = tie.close (tie.spec Inv-loop μ-loop loop-holds shared-slice-read-step step-requires add-i loop-less loop-again returns)
+stepped-spec = tie.close (tie.spec Inv-loop μ-loop loop-holds (λ c. omega arith) (λ c κs. tt) (λ c. omega arith) (λ c. omega arith) loop-again returns)

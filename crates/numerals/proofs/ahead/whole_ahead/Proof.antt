@@ -8,24 +8,6 @@ use borrow.Author.Needs.{needs}
 use Rattle.numerals.proofs.ahead.whole_ahead.Statement.{statement}
 use Rattle.numerals.proofs.ahead.whole_ahead.Tie as tie
 
-shared-slice-read-figure-of : tie.Need-shared-slice-read-figure-of
-shared-slice-read-figure-of c = omega arith
-
-figure-of-requires : tie.Need-figure-of-requires
-figure-of-requires c κs = search needs
-
-cast-digit-run : tie.Need-cast-digit-run
-cast-digit-run c = search needs
-
-digit-run-requires : tie.Need-digit-run-requires
-digit-run-requires c κs = omega arith
-
-shared-slice-read-if2 : tie.Need-shared-slice-read-if2
-shared-slice-read-if2 c = search needs
-
-add-part-ahead : tie.Need-add-part-ahead
-add-part-ahead c = omega arith
-
 part-ahead-requires : tie.Need-part-ahead-requires
 part-ahead-requires c κs = (omega arith, points (now (c .before .before .before .before .before .before .before .args .v)) (c .before .before .if1 .taken) (c .before .before .before .digit-run .ensures .says wholeOf whole-steps (rw (c .before .before .before .before .figure-of .ensures) (starts (now (c .before .before .before .before .before .before .before .args .v)) (c .before .before .before .before .before .before .before .pre .0) (c .before .before .before .before .before .before .before .pre .1)))) (c .if2 .taken))
 
@@ -42,12 +24,12 @@ pub whole-ahead-spec : {M : Type 1} → statement M
 whole-ahead-spec =
     tie.close
     (tie.spec
-    shared-slice-read-figure-of
-    figure-of-requires
-    cast-digit-run
-    digit-run-requires
-    shared-slice-read-if2
-    add-part-ahead
+    (λ c. omega arith)
+    (λ c κs. search needs)
+    (λ c. search needs)
+    (λ c κs. omega arith)
+    (λ c. search needs)
+    (λ c. omega arith)
     part-ahead-requires
     returns
     stepped-requires

@@ -6,27 +6,6 @@ use borrow.Author.Needs.{needs}
 use Rattle.numerals.proofs.positive.body_end.Statement.{statement}
 use Rattle.numerals.proofs.positive.body_end.Tie as tie
 
-enum-known-body : tie.Need-enum-known-body
-enum-known-body c = search needs
-
-whole-end-requires : tie.Need-whole-end-requires
-whole-end-requires c κs = search needs
-
-enum-known-body-2 : tie.Need-enum-known-body-2
-enum-known-body-2 c = search needs
-
-part-end-requires : tie.Need-part-end-requires
-part-end-requires c κs = search needs
-
-enum-known-body-3 : tie.Need-enum-known-body-3
-enum-known-body-3 c = search needs
-
-power-end-requires : tie.Need-power-end-requires
-power-end-requires c κs = search needs
-
-bad-number-requires : tie.Need-bad-number-requires
-bad-number-requires c κs = search needs
-
 returns : tie.Need-returns
 unfolding bodyEnd numberBodyEnd bodyDecimals
 returns c = known bodyEnd (c .before .before .body .given .1) (c .whole-end .ensures)
@@ -46,13 +25,13 @@ pub body-end-spec : {M : Type 1} → statement M
 body-end-spec =
     tie.close
     (tie.spec
-    enum-known-body
-    whole-end-requires
-    enum-known-body-2
-    part-end-requires
-    enum-known-body-3
-    power-end-requires
-    bad-number-requires
+    (λ c. search needs)
+    (λ c κs. search needs)
+    (λ c. search needs)
+    (λ c κs. search needs)
+    (λ c. search needs)
+    (λ c κs. search needs)
+    (λ c κs. search needs)
     returns
     returns-2
     returns-3

@@ -6,21 +6,12 @@ use Rattle.numerals.proofs.CodeLaws.{limit-zero, limit-in, limit-top}
 use Rattle.numerals.proofs.positive.limit.Statement.{statement}
 use Rattle.numerals.proofs.positive.limit.Tie as tie
 
-shifted-requires : tie.Need-shifted-requires
-shifted-requires c κs = search needs
-
-bad-number-requires : tie.Need-bad-number-requires
-bad-number-requires c κs = search needs
-
 returns : tie.Need-returns
 returns c = c .bad-number .ensures ∙ ap (λ (x : Number). numberRead x 0) (limit-zero _ (c .before .before .shifted .ensures) (c .before .if1 .taken))
 
 returns-2 : tie.Need-returns-2
 unfolding numberRead
 returns-2 c = ap (λ (x : Number). numberRead x 0) (limit-in _ (c .before .before .shifted .ensures) (c .before .if1 .left) (c .if2 .taken))
-
-bad-number-requires-2 : tie.Need-bad-number-requires-2
-bad-number-requires-2 c κs = search needs
 
 returns-3 : tie.Need-returns-3
 returns-3 c = c .bad-number2 .ensures ∙ ap (λ (x : Number). numberRead x 0) (limit-top _ (c .before .before .before .shifted .ensures) (c .before .if2 .left))
@@ -29,9 +20,9 @@ pub limit-spec : {M : Type 1} → statement M
 limit-spec =
     tie.close
     (tie.spec
-    shifted-requires
-    bad-number-requires
+    (λ c κs. search needs)
+    (λ c κs. search needs)
     returns
     returns-2
-    bad-number-requires-2
+    (λ c κs. search needs)
     returns-3)

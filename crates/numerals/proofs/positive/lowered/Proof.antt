@@ -12,32 +12,17 @@ Inv-loop n k m₀ left₀ m left = Lowering n k m left
 abbrev μ-loop : tie.MeasureT-loop
 μ-loop n k m₀ left₀ m left = left
 
-bad-number-requires : tie.Need-bad-number-requires Inv-loop μ-loop
-bad-number-requires c κs = tt
-
 returns : tie.Need-returns Inv-loop μ-loop
 returns c = c .bad-number .ensures ∙ ap (λ (x : Number). numberRead x 0) (rw (c .before .if1 .taken) (low-zero (c .before .before .args .k)))
 
 loop-holds : tie.Need-loop-holds Inv-loop μ-loop
 loop-holds c = low-start (c .before .args .n) (c .before .args .k) (c .if1 .left)
 
-bad-number-requires-2 : tie.Need-bad-number-requires-2 Inv-loop μ-loop
-bad-number-requires-2 c κs = tt
-
 returns-2 : tie.Need-returns-2 Inv-loop μ-loop
 returns-2 c = c .bad-number2 .ensures ∙ ap (λ (x : Number). numberRead x 0) (low-over (c .before .before .before .before .before .args .n) (c .before .before .before .before .before .args .k) (c .before .before .before .loop .m) (c .before .before .before .loop .left) (c .before .before .before .loop .inv) (c .before .before .loop-test .taken) (c .before .if2 .taken))
 
-sub-left : tie.Need-sub-left Inv-loop μ-loop
-sub-left c = omega arith
-
-loop-less : tie.Need-loop-less Inv-loop μ-loop
-loop-less c = omega arith
-
 loop-again : tie.Need-loop-again Inv-loop μ-loop
 loop-again c = low-more (c .before .before .before .before .args .n) (c .before .before .before .before .args .k) (c .before .before .loop .m) (c .before .before .loop .left) (c .before .before .loop .inv) (c .before .loop-test .taken) (c .if2 .left)
-
-limit-requires : tie.Need-limit-requires Inv-loop μ-loop
-limit-requires c κs = tt
 
 returns-3 : tie.Need-returns-3 Inv-loop μ-loop
 returns-3 c = c .limit .ensures ∙ ap (λ (x : Number). numberRead x 0) (low-end (c .before .before .before .before .args .n) (c .before .before .before .before .args .k) (c .before .before .loop .m) (c .before .before .loop .left) (c .before .before .loop .inv) (c .before .loop-test .left))
@@ -48,13 +33,13 @@ lowered-spec =
     (tie.spec
     Inv-loop
     μ-loop
-    bad-number-requires
+    (λ c κs. tt)
     returns
     loop-holds
-    bad-number-requires-2
+    (λ c κs. tt)
     returns-2
-    sub-left
-    loop-less
+    (λ c. omega arith)
+    (λ c. omega arith)
     loop-again
-    limit-requires
+    (λ c κs. tt)
     returns-3)

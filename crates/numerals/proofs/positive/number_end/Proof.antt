@@ -5,18 +5,9 @@ use Rattle.numerals.specs.Scan.{numberEnd}
 use Rattle.numerals.proofs.positive.number_end.Statement.{statement}
 use Rattle.numerals.proofs.positive.number_end.Tie as tie
 
-is-broken-requires : tie.Need-is-broken-requires
-is-broken-requires c κs = search needs
-
-bad-number-requires : tie.Need-bad-number-requires
-bad-number-requires c κs = search needs
-
 returns : tie.Need-returns
 unfolding numberEnd
 returns c = rw (sym (c .before .before .is-broken .ensures) ∙ c .before .if1 .taken) (c .bad-number .ensures)
-
-body-end-requires : tie.Need-body-end-requires
-body-end-requires c κs = search needs
 
 returns-2 : tie.Need-returns-2
 unfolding numberEnd
@@ -24,4 +15,4 @@ returns-2 c = rw (sym (c .before .before .is-broken .ensures) ∙ c .before .if1
 
 pub number-end-spec : {M : Type 1} → statement M
 number-end-spec =
-    tie.close (tie.spec is-broken-requires bad-number-requires returns body-end-requires returns-2)
+    tie.close (tie.spec (λ c κs. search needs) (λ c κs. search needs) returns (λ c κs. search needs) returns-2)

@@ -5,12 +5,6 @@ use Rattle.numerals.proofs.CodeLaws.{told-none, told-some}
 use Rattle.numerals.proofs.positive.part_end.Statement.{statement}
 use Rattle.numerals.proofs.positive.part_end.Tie as tie
 
-power-end-requires : tie.Need-power-end-requires
-power-end-requires c κs = search needs
-
-at-most-six-requires : tie.Need-at-most-six-requires
-at-most-six-requires c κs = search needs
-
 returns : tie.Need-returns
 unfolding bodyEnd numberBodyEnd bodyDecimals
 returns c = told-some _ _ _ _ (c .before .before .power-end .ensures) (c .before .if1 .taken) (c .at-most-six .ensures)
@@ -20,4 +14,4 @@ unfolding bodyEnd numberBodyEnd bodyDecimals
 returns-2 c = told-none _ _ _ (c .before .power-end .ensures) (c .if1 .left)
 
 pub part-end-spec : {M : Type 1} → statement M
-part-end-spec = tie.close (tie.spec power-end-requires at-most-six-requires returns returns-2)
+part-end-spec = tie.close (tie.spec (λ c κs. search needs) (λ c κs. search needs) returns returns-2)

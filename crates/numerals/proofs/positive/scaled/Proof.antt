@@ -6,23 +6,11 @@ use borrow.Author.Needs.{needs}
 use Rattle.numerals.proofs.positive.scaled.Statement.{statement}
 use Rattle.numerals.proofs.positive.scaled.Tie as tie
 
-bad-number-requires : tie.Need-bad-number-requires
-bad-number-requires c κs = search needs
-
 returns : tie.Need-returns
 returns c = c .bad-number .ensures ∙ ap (λ (x : Number). numberRead x 0) (scaled-top (c .before .before .args .n) (c .before .before .args .up) (c .before .before .args .down) (c .before .if1 .taken))
 
-limit-requires : tie.Need-limit-requires
-limit-requires c κs = search needs
-
 returns-2 : tie.Need-returns-2
 returns-2 c = c .limit .ensures ∙ ap (λ (x : Number). numberRead x 0) (scaled-up (c .before .before .before .args .n) (c .before .before .before .args .up) (c .before .before .before .args .down) (let h = c .before .before .if1 .left in omega arith) (c .before .if2 .taken))
-
-sub-lowered : tie.Need-sub-lowered
-sub-lowered c = search needs
-
-lowered-requires : tie.Need-lowered-requires
-lowered-requires c κs = search needs
 
 returns-3 : tie.Need-returns-3
 returns-3 c = c .lowered .ensures ∙ ap (λ (x : Number). numberRead x 0) (scaled-down (c .before .before .before .args .n) (c .before .before .before .args .up) (c .before .before .before .args .down) (let h = c .before .before .if1 .left in omega arith) (let h = c .before .if2 .left in omega arith))
@@ -31,10 +19,10 @@ pub scaled-spec : {M : Type 1} → statement M
 scaled-spec =
     tie.close
     (tie.spec
-    bad-number-requires
+    (λ c κs. search needs)
     returns
-    limit-requires
+    (λ c κs. search needs)
     returns-2
-    sub-lowered
-    lowered-requires
+    (λ c. search needs)
+    (λ c κs. search needs)
     returns-3)

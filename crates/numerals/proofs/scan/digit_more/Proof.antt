@@ -6,18 +6,6 @@ use borrow.Author.Needs.{needs}
 use Rattle.numerals.proofs.scan.digit_more.Statement.{statement}
 use Rattle.numerals.proofs.scan.digit_more.Tie as tie
 
-mul-result : tie.Need-mul-result
-mul-result c = search needs
-
-figure-of-requires : tie.Need-figure-of-requires
-figure-of-requires c κs = search needs
-
-cast-result : tie.Need-cast-result
-cast-result c = search needs
-
-add-result : tie.Need-add-result
-add-result c = search needs
-
 returns : tie.Need-returns
 unfolding joined
 returns c = rw (lt-ltb (c .before .before .args .n) TENTH (c .before .if1 .taken), c .figure-of .ensures)
@@ -38,10 +26,10 @@ pub digit-more-spec : {M : Type 1} → statement M
 digit-more-spec =
     tie.close
     (tie.spec
-    mul-result
-    figure-of-requires
-    cast-result
-    add-result
+    (λ c. search needs)
+    (λ c κs. search needs)
+    (λ c. search needs)
+    (λ c. search needs)
     returns
     returns-2
     returns-3

@@ -13,12 +13,9 @@ returns-2 : tie.Need-returns-2
 unfolding firstStep
 returns-2 c = search picks
 
-sign-step-requires : tie.Need-sign-step-requires
-sign-step-requires c κs = search needs
-
 returns-3 : tie.Need-returns-3
 unfolding firstStep
 returns-3 c = search picks
 
 pub first-step-spec : {M : Type 1} → statement M
-first-step-spec = tie.close (tie.spec returns returns-2 sign-step-requires returns-3)
+first-step-spec = tie.close (tie.spec returns returns-2 (λ c κs. search needs) returns-3)

@@ -13,12 +13,9 @@ returns-2 : tie.Need-returns-2
 unfolding markStep
 returns-2 c = search picks
 
-power-digit-requires : tie.Need-power-digit-requires
-power-digit-requires c κs = search needs
-
 returns-3 : tie.Need-returns-3
 unfolding markStep
 returns-3 c = search picks
 
 pub mark-step-spec : {M : Type 1} → statement M
-mark-step-spec = tie.close (tie.spec returns returns-2 power-digit-requires returns-3)
+mark-step-spec = tie.close (tie.spec returns returns-2 (λ c κs. search needs) returns-3)

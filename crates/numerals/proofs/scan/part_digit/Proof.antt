@@ -6,15 +6,6 @@ use Rattle.numerals.proofs.Picks.{picks}
 use Rattle.numerals.proofs.scan.part_digit.Statement.{statement}
 use Rattle.numerals.proofs.scan.part_digit.Tie as tie
 
-is-digit-requires : tie.Need-is-digit-requires
-is-digit-requires c κs = search needs
-
-far-requires : tie.Need-far-requires
-far-requires c κs = search needs
-
-with-digit-requires : tie.Need-with-digit-requires
-with-digit-requires c κs = search needs
-
 returns : tie.Need-returns
 unfolding partDigit
 returns c = rw (sym (c .before .before .before .is-digit .ensures) ∙ c .before .before .if1 .taken, c .with-digit .ensures, c .before .far .ensures)
@@ -24,4 +15,4 @@ unfolding partDigit
 returns-2 c = search picks
 
 pub part-digit-spec : {M : Type 1} → statement M
-part-digit-spec = tie.close (tie.spec is-digit-requires far-requires with-digit-requires returns returns-2)
+part-digit-spec = tie.close (tie.spec (λ c κs. search needs) (λ c κs. search needs) (λ c κs. search needs) returns returns-2)

@@ -5,19 +5,13 @@ use Rattle.numerals.proofs.Picks.{picks}
 use Rattle.numerals.proofs.scan.part_step.Statement.{statement}
 use Rattle.numerals.proofs.scan.part_step.Tie as tie
 
-is-mark-requires : tie.Need-is-mark-requires
-is-mark-requires c κs = search needs
-
 returns : tie.Need-returns
 unfolding partStep
 returns c = search picks
-
-part-digit-requires : tie.Need-part-digit-requires
-part-digit-requires c κs = search needs
 
 returns-2 : tie.Need-returns-2
 unfolding partStep
 returns-2 c = search picks
 
 pub part-step-spec : {M : Type 1} → statement M
-part-step-spec = tie.close (tie.spec is-mark-requires returns part-digit-requires returns-2)
+part-step-spec = tie.close (tie.spec (λ c κs. search needs) returns (λ c κs. search needs) returns-2)

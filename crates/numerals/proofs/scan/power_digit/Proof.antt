@@ -5,19 +5,13 @@ use Rattle.numerals.proofs.Picks.{picks}
 use Rattle.numerals.proofs.scan.power_digit.Statement.{statement}
 use Rattle.numerals.proofs.scan.power_digit.Tie as tie
 
-is-digit-requires : tie.Need-is-digit-requires
-is-digit-requires c κs = search needs
-
 returns : tie.Need-returns
 unfolding powerDigit
 returns c = search picks
-
-power-more-requires : tie.Need-power-more-requires
-power-more-requires c κs = search needs
 
 returns-2 : tie.Need-returns-2
 unfolding powerDigit
 returns-2 c = search picks
 
 pub power-digit-spec : {M : Type 1} → statement M
-power-digit-spec = tie.close (tie.spec is-digit-requires returns power-more-requires returns-2)
+power-digit-spec = tie.close (tie.spec (λ c κs. search needs) returns (λ c κs. search needs) returns-2)

@@ -6,15 +6,6 @@ use borrow.Author.Needs.{needs}
 use Rattle.numerals.proofs.scan.sign_step.Statement.{statement}
 use Rattle.numerals.proofs.scan.sign_step.Tie as tie
 
-is-digit-requires : tie.Need-is-digit-requires
-is-digit-requires c κs = search needs
-
-no-digits-requires : tie.Need-no-digits-requires
-no-digits-requires c κs = search needs
-
-whole-digit-requires : tie.Need-whole-digit-requires
-whole-digit-requires c κs = search needs
-
 returns : tie.Need-returns
 unfolding signStep
 returns c = rw (sym (c .before .before .before .is-digit .ensures) ∙ c .before .before .if1 .taken, c .whole-digit .ensures, c .before .no-digits .ensures)
@@ -35,9 +26,9 @@ pub sign-step-spec : {M : Type 1} → statement M
 sign-step-spec =
     tie.close
     (tie.spec
-    is-digit-requires
-    no-digits-requires
-    whole-digit-requires
+    (λ c κs. search needs)
+    (λ c κs. search needs)
+    (λ c κs. search needs)
     returns
     returns-2
     returns-3

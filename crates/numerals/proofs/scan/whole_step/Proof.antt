@@ -5,12 +5,6 @@ use borrow.Author.Needs.{needs}
 use Rattle.numerals.proofs.scan.whole_step.Statement.{statement}
 use Rattle.numerals.proofs.scan.whole_step.Tie as tie
 
-is-digit-requires : tie.Need-is-digit-requires
-is-digit-requires c κs = search needs
-
-whole-digit-requires : tie.Need-whole-digit-requires
-whole-digit-requires c κs = search needs
-
 returns : tie.Need-returns
 unfolding wholeStep
 returns c = search picks
@@ -22,9 +16,6 @@ returns-2 c = search picks
 returns-3 : tie.Need-returns-3
 unfolding wholeStep
 returns-3 c = search picks
-
-is-mark-requires : tie.Need-is-mark-requires
-is-mark-requires c κs = search needs
 
 returns-4 : tie.Need-returns-4
 unfolding wholeStep
@@ -38,11 +29,11 @@ pub whole-step-spec : {M : Type 1} → statement M
 whole-step-spec =
     tie.close
     (tie.spec
-    is-digit-requires
-    whole-digit-requires
+    (λ c κs. search needs)
+    (λ c κs. search needs)
     returns
     returns-2
     returns-3
-    is-mark-requires
+    (λ c κs. search needs)
     returns-4
     returns-5)

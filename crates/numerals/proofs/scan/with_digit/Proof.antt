@@ -3,14 +3,8 @@ use borrow.Author.Needs.{needs}
 use Rattle.numerals.proofs.scan.with_digit.Statement.{statement}
 use Rattle.numerals.proofs.scan.with_digit.Tie as tie
 
-digit-more-requires : tie.Need-digit-more-requires
-digit-more-requires c κs = search needs
-
-zeros-more-requires : tie.Need-zeros-more-requires
-zeros-more-requires c κs = search needs
-
 returns : tie.Need-returns
 returns c = rw (c .before .digit-more .ensures, c .zeros-more .ensures)
 
 pub with-digit-spec : {M : Type 1} → statement M
-with-digit-spec = tie.close (tie.spec digit-more-requires zeros-more-requires returns)
+with-digit-spec = tie.close (tie.spec (λ c κs. search needs) (λ c κs. search needs) returns)

@@ -9,12 +9,9 @@ returns : tie.Need-returns
 unfolding zerosMore
 returns c = search picks
 
-far-requires : tie.Need-far-requires
-far-requires c κs = search needs
-
 returns-2 : tie.Need-returns-2
 unfolding zerosMore
 returns-2 c = search picks
 
 pub zeros-more-spec : {M : Type 1} → statement M
-zeros-more-spec = tie.close (tie.spec returns far-requires returns-2)
+zeros-more-spec = tie.close (tie.spec returns (λ c κs. search needs) returns-2)

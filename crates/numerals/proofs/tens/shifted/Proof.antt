@@ -19,15 +19,6 @@ loop-holds c = shift-start (c .before .args .n) (c .before .args .k) (c .if1 .le
 returns-2 : tie.Need-returns-2 Inv-loop μ-loop
 returns-2 c = shift-top (c .before .before .before .before .args .n) (c .before .before .before .before .args .k) (c .before .before .loop .m) (c .before .before .loop .left) (c .before .before .loop .inv) (c .if2 .taken)
 
-mul-m : tie.Need-mul-m Inv-loop μ-loop
-mul-m c = omega arith
-
-sub-left : tie.Need-sub-left Inv-loop μ-loop
-sub-left c = omega arith
-
-loop-less : tie.Need-loop-less Inv-loop μ-loop
-loop-less c = omega arith
-
 loop-again : tie.Need-loop-again Inv-loop μ-loop
 loop-again c = shift-more (c .before .before .before .before .args .n) (c .before .before .before .before .args .k) (c .before .before .loop .m) (c .before .before .loop .left) (c .before .before .loop .inv) (omega arith)
 
@@ -46,9 +37,9 @@ shifted-spec =
     returns
     loop-holds
     returns-2
-    mul-m
-    sub-left
-    loop-less
+    (λ c. omega arith)
+    (λ c. omega arith)
+    (λ c. omega arith)
     loop-again
     returns-3
     returns-4)

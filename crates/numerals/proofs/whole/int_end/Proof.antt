@@ -5,19 +5,13 @@ use Rattle.numerals.proofs.Picks.{picks}
 use Rattle.numerals.proofs.whole.int_end.Statement.{statement}
 use Rattle.numerals.proofs.whole.int_end.Tie as tie
 
-is-broken-requires : tie.Need-is-broken-requires
-is-broken-requires c κs = search needs
-
 returns : tie.Need-returns
 unfolding intEnd
 returns c = search picks
-
-body-end-requires : tie.Need-body-end-requires
-body-end-requires c κs = search needs
 
 returns-2 : tie.Need-returns-2
 unfolding intEnd
 returns-2 c = search picks
 
 pub int-end-spec : {M : Type 1} → statement M
-int-end-spec = tie.close (tie.spec is-broken-requires returns body-end-requires returns-2)
+int-end-spec = tie.close (tie.spec (λ c κs. search needs) returns (λ c κs. search needs) returns-2)

@@ -8,14 +8,8 @@ use Rattle.numerals.proofs.Theorems.{int-exact}
 use Rattle.numerals.proofs.whole.int_of.Statement.{statement}
 use Rattle.numerals.proofs.whole.int_of.Tie as tie
 
-scanned-requires : tie.Need-scanned-requires
-scanned-requires c κs = search needs
-
-int-end-requires : tie.Need-int-end-requires
-int-end-requires c κs = search needs
-
 returns : tie.Need-returns
 returns c = ap paper (c .int-end .ensures) ∙ ap (λ (s : Scan). paper (intEnd s)) (c .before .scanned .ensures) ∙ int-exact _
 
 pub int-of-spec : {M : Type 1} → statement M
-int-of-spec = tie.close (tie.spec scanned-requires int-end-requires returns)
+int-of-spec = tie.close (tie.spec (λ c κs. search needs) (λ c κs. search needs) returns)

@@ -8,47 +8,17 @@ use Rattle.pieces.proofs.characters.character.Tie as tie
 returns : tie.Need-returns
 returns c = char-open _ _ _ (c .if1 .taken)
 
-shared-slice-read-b : tie.Need-shared-slice-read-b
-shared-slice-read-b c = search needs
-
-is-plain-requires : tie.Need-is-plain-requires
-is-plain-requires c κs = search needs
-
-wide-requires : tie.Need-wide-requires
-wide-requires c κs = search needs
-
-add-t12 : tie.Need-add-t12
-add-t12 c = search needs
-
 returns-2 : tie.Need-returns-2
 returns-2 c = char-plain _ _ _ (c .before .before .before .before .before .if1 .left) _ (c .wide .ensures) (c .before .before .before .if2 .taken) (sym (c .before .before .is-plain .ensures) ∙ c .before .if3 .taken)
 
 returns-3 : tie.Need-returns-3
 returns-3 c = char-not _ _ _ (c .before .before .before .before .if1 .left) (c .before .before .if2 .taken) (sym (c .before .is-plain .ensures) ∙ c .if3 .left)
 
-add-two : tie.Need-add-two
-add-two c = search needs
-
-two-requires : tie.Need-two-requires
-two-requires c κs = search needs
-
 returns-4 : tie.Need-returns-4
 returns-4 c = char-two _ _ _ (c .before .before .before .before .before .if1 .left) (c .before .before .if4 .left) (c .before .if5 .taken) (c .two .ensures)
 
-add-three : tie.Need-add-three
-add-three c = search needs
-
-three-requires : tie.Need-three-requires
-three-requires c κs = search needs
-
 returns-5 : tie.Need-returns-5
 returns-5 c = char-three _ _ _ (c .before .before .before .before .before .before .if1 .left) (c .before .before .if5 .left) (c .before .if6 .taken) (c .three .ensures)
-
-add-four : tie.Need-add-four
-add-four c = search needs
-
-four-requires : tie.Need-four-requires
-four-requires c κs = search needs
 
 returns-6 : tie.Need-returns-6
 returns-6 c = char-four _ _ _ (c .before .before .before .before .before .before .before .if1 .left) (c .before .before .if6 .left) (c .before .if7 .taken) (c .four .ensures)
@@ -64,20 +34,20 @@ character-spec =
     tie.close
     (tie.spec
     returns
-    shared-slice-read-b
-    is-plain-requires
-    wide-requires
-    add-t12
+    (λ c. search needs)
+    (λ c κs. search needs)
+    (λ c κs. search needs)
+    (λ c. search needs)
     returns-2
     returns-3
-    add-two
-    two-requires
+    (λ c. search needs)
+    (λ c κs. search needs)
     returns-4
-    add-three
-    three-requires
+    (λ c. search needs)
+    (λ c κs. search needs)
     returns-5
-    add-four
-    four-requires
+    (λ c. search needs)
+    (λ c κs. search needs)
     returns-6
     returns-7
     returns-8)

@@ -6,47 +6,14 @@ use Rattle.pieces.proofs.CharacterLaws.{in-tail, four-second-fails, fou
 use Rattle.pieces.proofs.characters.four.Statement.{statement}
 use Rattle.pieces.proofs.characters.four.Tie as tie
 
-bound-requires : tie.Need-bound-requires
-bound-requires c κs = search needs
-
-bound-requires-2 : tie.Need-bound-requires-2
-bound-requires-2 c κs = search needs
-
-tail-requires : tie.Need-tail-requires
-tail-requires c κs = search needs
-
-enum-known-r : tie.Need-enum-known-r
-enum-known-r c = search needs
-
 returns : tie.Need-returns
 returns c = four-second-fails _ (c .before .before .before .before .before .pre .0) (c .before .before .before .before .before .pre .1) _ _ (c .before .before .before .bound .ensures) (c .before .before .bound2 .ensures) _ _ (c .match .keys2) (c .before .tail .ensures)
-
-tail-requires-2 : tie.Need-tail-requires-2
-tail-requires-2 c κs = search needs
-
-enum-known-r-2 : tie.Need-enum-known-r-2
-enum-known-r-2 c = search needs
 
 returns-2 : tie.Need-returns-2
 returns-2 c = four-third-fails _ (c .before .before .before .before .before .before .before .before .before .pre .0) (c .before .before .before .before .before .before .before .before .before .pre .1) _ _ (c .before .before .before .before .before .before .before .bound .ensures) (c .before .before .before .before .before .before .bound2 .ensures) _ _ (known (c .before .before .before .r .given .1) (c .before .before .before .before .before .tail .ensures)) (c .match2 .keys2) (c .before .tail2 .ensures)
 
-tail-requires-3 : tie.Need-tail-requires-3
-tail-requires-3 c κs = search needs
-
-enum-known-r-3 : tie.Need-enum-known-r-3
-enum-known-r-3 c = search needs
-
 returns-3 : tie.Need-returns-3
 returns-3 c = four-fourth-fails _ (c .before .before .before .before .before .before .before .before .before .before .before .before .before .pre .0) (c .before .before .before .before .before .before .before .before .before .before .before .before .before .pre .1) _ _ (c .before .before .before .before .before .before .before .before .before .before .before .bound .ensures) (c .before .before .before .before .before .before .before .before .before .before .bound2 .ensures) _ _ (known (c .before .before .before .before .before .before .before .r .given .1) (c .before .before .before .before .before .before .before .before .before .tail .ensures)) (known (c .before .before .before .r2 .given .1) (c .before .before .before .before .before .tail2 .ensures)) (c .match3 .keys2) (c .before .tail3 .ensures)
-
-wide-requires : tie.Need-wide-requires
-wide-requires c κs = search needs
-
-sub-t16 : tie.Need-sub-t16
-sub-t16 c = search needs
-
-mul-t17 : tie.Need-mul-t17
-mul-t17 c = search needs
 
 sub-t18 : tie.Need-sub-t18
 sub-t18 c = let z = four-bounds _ (c .before .before .before .before .before .before .before .before .before .before .before .before .before .before .before .before .pre .0) (c .before .before .before .before .before .before .before .before .before .before .before .before .before .before .before .before .pre .1) _ _ (c .before .before .before .before .before .before .before .before .before .before .before .before .before .before .bound .ensures) (c .before .before .before .before .before .before .before .before .before .before .before .before .before .bound2 .ensures) _ _ (known (c .before .before .before .before .before .before .before .before .before .before .r .given .1) (c .before .before .before .before .before .before .before .before .before .before .before .before .tail .ensures)) in omega arith
@@ -79,20 +46,20 @@ pub four-spec : {M : Type 1} → statement M
 four-spec =
     tie.close
     (tie.spec
-    bound-requires
-    bound-requires-2
-    tail-requires
-    enum-known-r
+    (λ c κs. search needs)
+    (λ c κs. search needs)
+    (λ c κs. search needs)
+    (λ c. search needs)
     returns
-    tail-requires-2
-    enum-known-r-2
+    (λ c κs. search needs)
+    (λ c. search needs)
     returns-2
-    tail-requires-3
-    enum-known-r-3
+    (λ c κs. search needs)
+    (λ c. search needs)
     returns-3
-    wide-requires
-    sub-t16
-    mul-t17
+    (λ c κs. search needs)
+    (λ c. search needs)
+    (λ c. search needs)
     sub-t18
     add-t19
     mul-t20

@@ -8,11 +8,8 @@ use Rattle.pieces.proofs.characters.is_plain.Tie as tie
 returns : tie.Need-returns
 returns c = plain-quote _ _ (c .if1 .taken)
 
-is-text-requires : tie.Need-is-text-requires
-is-text-requires c κs = search needs
-
 returns-2 : tie.Need-returns-2
 returns-2 c = c .is-text .ensures ∙ plain-other _ _ (c .before .if1 .left)
 
 pub is-plain-spec : {M : Type 1} → statement M
-is-plain-spec = tie.close (tie.spec returns is-text-requires returns-2)
+is-plain-spec = tie.close (tie.spec returns (λ c κs. search needs) returns-2)

@@ -18,9 +18,6 @@ use Rattle.pieces.proofs.characters.is_text.Tie as tie
 abbrev t : ℕ → Bool
 t b = plainByte (banned 60) b
 
-is-glue-requires : tie.Need-is-glue-requires
-is-glue-requires c κs = search needs
-
 returns : tie.Need-returns
 returns c = c .is-glue .ensures ∙ text-low _ (c .before .if1 .taken)
 
@@ -44,4 +41,4 @@ returns-5 c =
 
 pub is-text-spec : {M : Type 1} → statement M
 is-text-spec =
-    tie.close (tie.spec is-glue-requires returns returns-2 returns-3 returns-4 returns-5)
+    tie.close (tie.spec (λ c κs. search needs) returns returns-2 returns-3 returns-4 returns-5)

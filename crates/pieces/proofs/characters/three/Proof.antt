@@ -7,44 +7,11 @@ use Rattle.pieces.proofs.CharacterLaws.{three-second-fails, three-bound
 use Rattle.pieces.proofs.characters.three.Statement.{statement}
 use Rattle.pieces.proofs.characters.three.Tie as tie
 
-bound-requires : tie.Need-bound-requires
-bound-requires c κs = search needs
-
-bound-requires-2 : tie.Need-bound-requires-2
-bound-requires-2 c κs = search needs
-
-tail-requires : tie.Need-tail-requires
-tail-requires c κs = search needs
-
-enum-known-r : tie.Need-enum-known-r
-enum-known-r c = search needs
-
 returns : tie.Need-returns
 returns c = three-second-fails _ (c .before .before .before .before .before .pre .0) (c .before .before .before .before .before .pre .1) _ _ (c .before .before .before .bound .ensures) (c .before .before .bound2 .ensures) _ _ (c .match .keys2) (c .before .tail .ensures)
 
-top-requires : tie.Need-top-requires
-top-requires c κs = search needs
-
-bound-requires-3 : tie.Need-bound-requires-3
-bound-requires-3 c κs = search needs
-
-tail-requires-2 : tie.Need-tail-requires-2
-tail-requires-2 c κs = search needs
-
-enum-known-r-2 : tie.Need-enum-known-r-2
-enum-known-r-2 c = search needs
-
 returns-2 : tie.Need-returns-2
 returns-2 c = three-third-fails _ (c .before .before .before .before .before .before .before .before .before .before .before .pre .0) (c .before .before .before .before .before .before .before .before .before .before .before .pre .1) _ _ (c .before .before .before .before .before .before .before .before .before .bound .ensures) (c .before .before .before .before .before .before .before .before .bound2 .ensures) _ _ (known (c .before .before .before .before .before .r .given .1) (c .before .before .before .before .before .before .before .tail .ensures)) _ (c .before .before .bound3 .ensures ∙ rw (c .before .before .before .top .ensures)) (c .match2 .keys2) (c .before .tail2 .ensures)
-
-wide-requires : tie.Need-wide-requires
-wide-requires c κs = search needs
-
-sub-t13 : tie.Need-sub-t13
-sub-t13 c = search needs
-
-mul-t14 : tie.Need-mul-t14
-mul-t14 c = search needs
 
 sub-t15 : tie.Need-sub-t15
 sub-t15 c = let z = three-bounds _ (c .before .before .before .before .before .before .before .before .before .before .before .before .before .before .pre .0) (c .before .before .before .before .before .before .before .before .before .before .before .before .before .before .pre .1) _ _ (c .before .before .before .before .before .before .before .before .before .before .before .before .bound .ensures) (c .before .before .before .before .before .before .before .before .before .before .before .bound2 .ensures) _ _ (known (c .before .before .before .before .before .before .before .before .r .given .1) (c .before .before .before .before .before .before .before .before .before .before .tail .ensures)) in omega arith
@@ -68,19 +35,19 @@ pub three-spec : {M : Type 1} → statement M
 three-spec =
     tie.close
     (tie.spec
-    bound-requires
-    bound-requires-2
-    tail-requires
-    enum-known-r
+    (λ c κs. search needs)
+    (λ c κs. search needs)
+    (λ c κs. search needs)
+    (λ c. search needs)
     returns
-    top-requires
-    bound-requires-3
-    tail-requires-2
-    enum-known-r-2
+    (λ c κs. search needs)
+    (λ c κs. search needs)
+    (λ c κs. search needs)
+    (λ c. search needs)
     returns-2
-    wide-requires
-    sub-t13
-    mul-t14
+    (λ c κs. search needs)
+    (λ c. search needs)
+    (λ c. search needs)
     sub-t15
     add-t16
     mul-t17

@@ -6,23 +6,8 @@ use Rattle.pieces.proofs.CharacterLaws.{in-tail, two-fails, two-read}
 use Rattle.pieces.proofs.characters.two.Statement.{statement}
 use Rattle.pieces.proofs.characters.two.Tie as tie
 
-tail-requires : tie.Need-tail-requires
-tail-requires c κs = search needs
-
-enum-known-r : tie.Need-enum-known-r
-enum-known-r c = search needs
-
 returns : tie.Need-returns
 returns c = two-fails _ _ _ (c .match .keys2) (c .before .tail .ensures)
-
-wide-requires : tie.Need-wide-requires
-wide-requires c κs = search needs
-
-sub-t8 : tie.Need-sub-t8
-sub-t8 c = search needs
-
-mul-t9 : tie.Need-mul-t9
-mul-t9 c = search needs
 
 sub-t10 : tie.Need-sub-t10
 sub-t10 c = let z = in-tail (known (c .before .before .r .given .1) (c .before .before .before .before .tail .ensures)) in omega arith
@@ -37,12 +22,12 @@ pub two-spec : {M : Type 1} → statement M
 two-spec =
     tie.close
     (tie.spec
-    tail-requires
-    enum-known-r
+    (λ c κs. search needs)
+    (λ c. search needs)
     returns
-    wide-requires
-    sub-t8
-    mul-t9
+    (λ c κs. search needs)
+    (λ c. search needs)
+    (λ c. search needs)
     sub-t10
     add-t11
     returns-2)

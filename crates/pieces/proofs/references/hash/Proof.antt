@@ -7,20 +7,8 @@ use Rattle.pieces.proofs.references.hash.Tie as tie
 returns : tie.Need-returns
 returns c = hash-open _ _ (c .if1 .taken)
 
-shared-slice-read-if2 : tie.Need-shared-slice-read-if2
-shared-slice-read-if2 c = search needs
-
-add-number : tie.Need-add-number
-add-number c = search needs
-
-number-requires : tie.Need-number-requires
-number-requires c κs = search needs
-
 returns-2 : tie.Need-returns-2
 returns-2 c = hash-hex _ _ (c .before .before .before .if1 .left) (c .before .if2 .taken) (c .number .ensures)
-
-number-requires-2 : tie.Need-number-requires-2
-number-requires-2 c κs = search needs
 
 returns-3 : tie.Need-returns-3
 returns-3 c = hash-dec _ _ (c .before .before .before .if1 .left) (c .before .if2 .left) (c .number2 .ensures)
@@ -30,9 +18,9 @@ hash-spec =
     tie.close
     (tie.spec
     returns
-    shared-slice-read-if2
-    add-number
-    number-requires
+    (λ c. search needs)
+    (λ c. search needs)
+    (λ c κs. search needs)
     returns-2
-    number-requires-2
+    (λ c κs. search needs)
     returns-3)

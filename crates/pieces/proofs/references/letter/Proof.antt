@@ -7,23 +7,11 @@ use Rattle.pieces.proofs.references.letter.Tie as tie
 returns : tie.Need-returns
 returns c = letter-before _ (c .before .pre) (c .if1 .taken)
 
-wide-requires : tie.Need-wide-requires
-wide-requires c κs = search needs
-
-sub-result : tie.Need-sub-result
-sub-result c = search needs
-
 returns-2 : tie.Need-returns-2
 returns-2 c = letter-upper _ (c .before .before .before .pre) _ (c .wide .ensures) (c .before .before .if1 .left) (c .before .if2 .taken)
 
 returns-3 : tie.Need-returns-3
 returns-3 c = letter-between _ (c .before .before .before .pre) (c .before .if2 .left) (c .if3 .taken)
-
-wide-requires-2 : tie.Need-wide-requires-2
-wide-requires-2 c κs = search needs
-
-sub-result-2 : tie.Need-sub-result-2
-sub-result-2 c = search needs
 
 returns-4 : tie.Need-returns-4
 returns-4 c = letter-lower _ (c .before .before .before .before .before .pre) _ (c .wide2 .ensures) (c .before .before .before .if2 .left) (c .before .before .if3 .left) (c .before .if4 .taken)
@@ -36,11 +24,11 @@ letter-spec =
     tie.close
     (tie.spec
     returns
-    wide-requires
-    sub-result
+    (λ c κs. search needs)
+    (λ c. search needs)
     returns-2
     returns-3
-    wide-requires-2
-    sub-result-2
+    (λ c κs. search needs)
+    (λ c. search needs)
     returns-4
     returns-5)

@@ -14,26 +14,11 @@ Inv-loop s at hex v₀ i₀ left₀ v i left = Counted hex s at v i left
 abbrev μ-loop : tie.MeasureT-loop
 μ-loop s at hex v₀ i₀ left₀ v i left = length s - i
 
-most-requires : tie.Need-most-requires Inv-loop μ-loop
-most-requires c κs = tt
-
 loop-holds : tie.Need-loop-holds Inv-loop μ-loop
 loop-holds c = digits-start _ _ _ _ (c .most .ensures)
 
-shared-slice-read-b : tie.Need-shared-slice-read-b Inv-loop μ-loop
-shared-slice-read-b c = omega arith
-
-worth-requires : tie.Need-worth-requires Inv-loop μ-loop
-worth-requires c κs = tt
-
 returns : tie.Need-returns Inv-loop μ-loop
 returns c = digits-other _ _ _ _ _ _ (c .before .before .before .before .before .loop .inv) (c .before .before .before .before .loop-test .taken) _ (c .before .before .worth .ensures) (c .before .if1 .taken) (c .if2 .taken)
-
-is-char-requires : tie.Need-is-char-requires Inv-loop μ-loop
-is-char-requires c κs = tt
-
-add-t16 : tie.Need-add-t16 Inv-loop μ-loop
-add-t16 c = omega arith
 
 returns-2 : tie.Need-returns-2 Inv-loop μ-loop
 returns-2 c = digits-done _ _ _ _ _ _ (c .before .before .before .before .before .before .before .loop .inv) (c .before .before .before .before .before .before .loop-test .taken) _ (c .before .before .before .before .worth .ensures) (c .before .before .before .if1 .taken) (c .before .before .if2 .left) (sym (c .before .is-char .ensures) ∙ c .if3 .taken)
@@ -47,23 +32,8 @@ returns-4 c = digits-full _ _ _ _ _ _ (c .before .before .before .before .before
 grow-requires : tie.Need-grow-requires Inv-loop μ-loop
 grow-requires c κs = (c .before .before .before .before .before .loop .inv .small, digit-max _ _ _ (c .before .before .worth .ensures))
 
-sub-is-alive : tie.Need-sub-is-alive Inv-loop μ-loop
-sub-is-alive c = omega arith
-
-is-alive-requires : tie.Need-is-alive-requires Inv-loop μ-loop
-is-alive-requires c κs = tt
-
 returns-5 : tie.Need-returns-5 Inv-loop μ-loop
 returns-5 c = digits-dead _ _ _ _ _ _ (c .before .before .before .before .before .before .before .before .loop .inv) (c .before .before .before .before .before .before .before .loop-test .taken) _ (c .before .before .before .before .before .worth .ensures) (c .before .before .before .before .if1 .left) (c .before .before .before .if4 .left) _ (c .before .before .grow .ensures) (sym (c .before .is-alive .ensures) ∙ not-true _ (c .if5 .taken))
-
-sub-left : tie.Need-sub-left Inv-loop μ-loop
-sub-left c = omega arith
-
-add-i : tie.Need-add-i Inv-loop μ-loop
-add-i c = omega arith
-
-loop-less : tie.Need-loop-less Inv-loop μ-loop
-loop-less c = omega arith
 
 loop-again : tie.Need-loop-again Inv-loop μ-loop
 loop-again c = digits-next _ _ _ _ _ _ (c .before .before .before .before .before .before .before .before .loop .inv) (c .before .before .before .before .before .before .before .loop-test .taken) _ (c .before .before .before .before .before .worth .ensures) (c .before .before .before .before .if1 .left) (c .before .before .before .if4 .left) _ (c .before .before .grow .ensures) (sym (c .before .is-alive .ensures) ∙ not-false _ (c .if5 .left))
@@ -77,22 +47,22 @@ number-spec =
     (tie.spec
     Inv-loop
     μ-loop
-    most-requires
+    (λ c κs. tt)
     loop-holds
-    shared-slice-read-b
-    worth-requires
+    (λ c. omega arith)
+    (λ c κs. tt)
     returns
-    is-char-requires
-    add-t16
+    (λ c κs. tt)
+    (λ c. omega arith)
     returns-2
     returns-3
     returns-4
     grow-requires
-    sub-is-alive
-    is-alive-requires
+    (λ c. omega arith)
+    (λ c κs. tt)
     returns-5
-    sub-left
-    add-i
-    loop-less
+    (λ c. omega arith)
+    (λ c. omega arith)
+    (λ c. omega arith)
     loop-again
     returns-6)

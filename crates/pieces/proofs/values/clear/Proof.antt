@@ -4,11 +4,8 @@ use borrow.Author.Needs.{needs}
 use Rattle.pieces.proofs.values.clear.Statement.{statement}
 use Rattle.pieces.proofs.values.clear.Tie as tie
 
-cast-result : tie.Need-cast-result
-cast-result c = search needs
-
 returns : tie.Need-returns
 returns c = clear-number _ _ _ (clear-plain _ _)
 
 pub clear-spec : {M : Type 1} → statement M
-clear-spec = tie.close (tie.spec cast-result returns)
+clear-spec = tie.close (tie.spec (λ c. search needs) returns)

@@ -7,20 +7,8 @@ use Rattle.pieces.proofs.values.item.Tie as tie
 returns : tie.Need-returns
 returns c = item-open _ _ _ (c .if1 .taken)
 
-shared-slice-read-if2 : tie.Need-shared-slice-read-if2
-shared-slice-read-if2 c = search needs
-
-add-reference : tie.Need-add-reference
-add-reference c = search needs
-
-reference-requires : tie.Need-reference-requires
-reference-requires c κs = search needs
-
 returns-2 : tie.Need-returns-2
 returns-2 c = item-ref _ _ _ (c .before .before .before .if1 .left) (c .before .if2 .taken) (c .reference .ensures)
-
-character-requires : tie.Need-character-requires
-character-requires c κs = search needs
 
 returns-3 : tie.Need-returns-3
 returns-3 c = item-raw _ _ _ (c .before .before .before .if1 .left) (c .before .if2 .left) (c .character .ensures)
@@ -30,9 +18,9 @@ item-spec =
     tie.close
     (tie.spec
     returns
-    shared-slice-read-if2
-    add-reference
-    reference-requires
+    (λ c. search needs)
+    (λ c. search needs)
+    (λ c κs. search needs)
     returns-2
-    character-requires
+    (λ c κs. search needs)
     returns-3)

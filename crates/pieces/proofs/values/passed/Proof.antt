@@ -5,9 +5,6 @@ use borrow.Author.Needs.{needs}
 use Rattle.pieces.proofs.values.passed.Statement.{statement}
 use Rattle.pieces.proofs.values.passed.Tie as tie
 
-shared-slice-read-if1 : tie.Need-shared-slice-read-if1
-shared-slice-read-if1 c = search needs
-
 returns : tie.Need-returns
 returns c = ran-none _ (c .before .before .before .pre .0) _ _
 
@@ -18,4 +15,4 @@ returns-2 : tie.Need-returns-2
 returns-2 c = c .plain-run .ensures
 
 pub passed-spec : {M : Type 1} → statement M
-passed-spec = tie.close (tie.spec shared-slice-read-if1 returns plain-run-requires returns-2)
+passed-spec = tie.close (tie.spec (λ c. search needs) returns plain-run-requires returns-2)

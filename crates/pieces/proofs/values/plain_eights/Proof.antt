@@ -17,20 +17,8 @@ abbrev μ-loop : tie.MeasureT-loop
 loop-holds : tie.Need-loop-holds Inv-loop μ-loop
 loop-holds c = (ran-none _ (c .before .pre .0) _ _, c .before .pre .1)
 
-sub-loop : tie.Need-sub-loop Inv-loop μ-loop
-sub-loop c = omega arith
-
-eight-clear-requires : tie.Need-eight-clear-requires Inv-loop μ-loop
-eight-clear-requires c κs = omega arith
-
 returns : tie.Need-returns Inv-loop μ-loop
 returns c = c .before .before .before .loop .inv .0
-
-add-i : tie.Need-add-i Inv-loop μ-loop
-add-i c = omega arith
-
-loop-less : tie.Need-loop-less Inv-loop μ-loop
-loop-less c = omega arith
 
 loop-again : tie.Need-loop-again Inv-loop μ-loop
 loop-again c = (ran-many _ (c .before .before .before .before .before .pre .0) _ _ 8 _ (c .before .before .before .loop .inv .0) (omega arith) (c .before .eight-clear .ensures (not-false _ (c .if1 .left))), omega arith)
@@ -45,10 +33,10 @@ plain-eights-spec =
     Inv-loop
     μ-loop
     loop-holds
-    sub-loop
-    eight-clear-requires
+    (λ c. omega arith)
+    (λ c κs. omega arith)
     returns
-    add-i
-    loop-less
+    (λ c. omega arith)
+    (λ c. omega arith)
     loop-again
     returns-2)

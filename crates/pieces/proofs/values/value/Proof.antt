@@ -23,23 +23,11 @@ passed-requires c κs = (c .before .before .before .pre .0, c .loop-test .taken)
 returns : tie.Need-returns Inv-loop μ-loop
 returns c = value-end _ (c .before .before .before .before .before .pre .0) _ _ _ (value-ran _ (c .before .before .before .before .before .pre .0) _ _ _ (c .before .before .before .loop .inv) _ (c .before .passed .ensures)) (c .if1 .taken)
 
-shared-slice-read-if2 : tie.Need-shared-slice-read-if2 Inv-loop μ-loop
-shared-slice-read-if2 c = omega arith
-
-add-t13 : tie.Need-add-t13 Inv-loop μ-loop
-add-t13 c = omega arith
-
 returns-2 : tie.Need-returns-2 Inv-loop μ-loop
 returns-2 c = value-stop _ (c .before .before .before .before .before .before .before .pre .0) _ _ _ (value-ran _ (c .before .before .before .before .before .before .before .pre .0) _ _ _ (c .before .before .before .before .before .loop .inv) _ (c .before .before .before .passed .ensures)) (c .before .before .if1 .left) (c .if2 .taken)
 
-piece-requires : tie.Need-piece-requires Inv-loop μ-loop
-piece-requires c κs = omega arith
-
 enum-known-p : tie.Need-enum-known-p Inv-loop μ-loop
 enum-known-p c = c .match .keys1
-
-step-requires : tie.Need-step-requires Inv-loop μ-loop
-step-requires c κs = tt
 
 returns-3 : tie.Need-returns-3 Inv-loop μ-loop
 returns-3 c = value-fail _ (c .before .before .before .before .before .before .before .before .before .before .pre .0) _ _ _ (value-ran _ (c .before .before .before .before .before .before .before .before .before .before .pre .0) _ _ _ (c .before .before .before .before .before .before .before .before .loop .inv) _ (c .before .before .before .before .before .before .passed .ensures)) (c .before .before .before .before .before .if1 .left) (c .before .before .before .if2 .left) (c .before .match .keys2) (c .step .ensures) (c .before .before .piece .ensures)
@@ -62,12 +50,12 @@ value-spec =
     loop-holds
     passed-requires
     returns
-    shared-slice-read-if2
-    add-t13
+    (λ c. omega arith)
+    (λ c. omega arith)
     returns-2
-    piece-requires
+    (λ c κs. omega arith)
     enum-known-p
-    step-requires
+    (λ c κs. tt)
     returns-3
     loop-less
     loop-again

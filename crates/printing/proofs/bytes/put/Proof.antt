@@ -12,9 +12,6 @@ Inv-loop out₀ at m most i₀ out i = Putting out₀ at m out i
 abbrev μ-loop : tie.MeasureT-loop
 μ-loop out₀ at m most i₀ out i = most - i
 
-fitting-requires : tie.Need-fitting-requires Inv-loop μ-loop
-fitting-requires c κs = search needs
-
 loop-holds : tie.Need-loop-holds Inv-loop μ-loop
 loop-holds c = putting-none _ _ _
 
@@ -27,17 +24,8 @@ add-out c = let z = c .before .before .before .fitting .ensures in omega arith
 slice-write-out : tie.Need-slice-write-out Inv-loop μ-loop
 slice-write-out c = let z = c .before .before .before .fitting .ensures in let l = c .before .before .loop .inv .put .long in omega arith
 
-add-i : tie.Need-add-i Inv-loop μ-loop
-add-i c = omega arith
-
-loop-less : tie.Need-loop-less Inv-loop μ-loop
-loop-less c = omega arith
-
 loop-again : tie.Need-loop-again Inv-loop μ-loop
 loop-again c = let z = c .before .before .before .fitting .ensures in putting-more (c .before .before .loop .inv) (omega arith)
-
-add-result : tie.Need-add-result Inv-loop μ-loop
-add-result c = omega arith
 
 same-length : tie.Need-same-length Inv-loop μ-loop
 same-length c = c .before .loop .inv .put .long
@@ -51,14 +39,14 @@ put-spec =
     (tie.spec
     Inv-loop
     μ-loop
-    fitting-requires
+    (λ c κs. search needs)
     loop-holds
     shared-slice-read-out
     add-out
     slice-write-out
-    add-i
-    loop-less
+    (λ c. omega arith)
+    (λ c. omega arith)
     loop-again
-    add-result
+    (λ c. omega arith)
     same-length
     returns)

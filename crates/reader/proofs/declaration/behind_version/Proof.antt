@@ -7,17 +7,8 @@ use borrow.Author.Needs.{needs}
 use Rattle.reader.proofs.declaration.behind_version.Statement.{statement}
 use Rattle.reader.proofs.declaration.behind_version.Tie as tie
 
-glue-requires : tie.Need-glue-requires
-glue-requires c κs = search needs
-
-enum-known-r : tie.Need-enum-known-r
-enum-known-r c = search needs
-
 returns : tie.Need-returns
 returns c = behind-version-fails _ _ (c .match .keys2) (c .before .glue .ensures)
-
-slice-aggregate-literal : tie.Need-slice-aggregate-literal
-slice-aggregate-literal c = search needs
 
 literal-requires : tie.Need-literal-requires
 literal-requires c κs = let g = known-tok (c .before .before .before .r .given .1) (c .before .before .before .before .before .glue .ensures) in omega arith
@@ -30,9 +21,6 @@ shared-slice-read-if2 c = let g = known-tok (c .before .before .before .r .given
 
 encoding-requires : tie.Need-encoding-requires
 encoding-requires c κs = let g = known-tok (c .before .before .before .before .r .given .1) (c .before .before .before .before .before .before .glue .ensures) in omega arith
-
-enum-known-r-2 : tie.Need-enum-known-r-2
-enum-known-r-2 c = search needs
 
 returns-3 : tie.Need-returns-3
 returns-3 c = behind-version-encoding-fails _ _ _ (known-tok (c .before .before .before .before .before .before .r .given .1) (c .before .before .before .before .before .before .before .before .glue .ensures)) (c .before .before .before .before .if1 .left) (c .before .before .if2 .taken) (c .match2 .keys2) (c .before .encoding .ensures)
@@ -53,15 +41,15 @@ pub behind-version-spec : {M : Type 1} → statement M
 behind-version-spec =
     tie.close
     (tie.spec
-    glue-requires
-    enum-known-r
+    (λ c κs. search needs)
+    (λ c. search needs)
     returns
-    slice-aggregate-literal
+    (λ c. search needs)
     literal-requires
     returns-2
     shared-slice-read-if2
     encoding-requires
-    enum-known-r-2
+    (λ c. search needs)
     returns-3
     behind-encoding-requires
     returns-4

@@ -7,23 +7,11 @@ use borrow.Author.Needs.{needs}
 use Rattle.reader.proofs.declaration.declaration.Statement.{statement}
 use Rattle.reader.proofs.declaration.declaration.Tie as tie
 
-slice-aggregate-literal : tie.Need-slice-aggregate-literal
-slice-aggregate-literal c = search needs
-
-literal-requires : tie.Need-literal-requires
-literal-requires c κs = search needs
-
-enum-known-r : tie.Need-enum-known-r
-enum-known-r c = search needs
-
 returns : tie.Need-returns
 returns c = declaration-name-fails _ _ (c .match .keys2) (c .before .literal .ensures)
 
 glue-requires : tie.Need-glue-requires
 glue-requires c κs = let g = known (c .before .r .given .1) (c .before .before .before .literal .ensures) in omega arith
-
-enum-known-r-2 : tie.Need-enum-known-r-2
-enum-known-r-2 c = search needs
 
 returns-2 : tie.Need-returns-2
 returns-2 c = declaration-glue-fails _ _ _ (known (c .before .before .before .r .given .1) (c .before .before .before .before .before .literal .ensures)) (c .match2 .keys2) (c .before .glue .ensures)
@@ -33,9 +21,6 @@ returns-3 c = declaration-unspaced _ _ _ (known (c .before .before .before .befo
 
 version-requires : tie.Need-version-requires
 version-requires c κs = let g = known-tok (c .before .before .r2 .given .1) (c .before .before .before .before .glue .ensures) in omega arith
-
-enum-known-r-3 : tie.Need-enum-known-r-3
-enum-known-r-3 c = search needs
 
 returns-4 : tie.Need-returns-4
 returns-4 c = declaration-version-fails _ _ _ (known (c .before .before .before .before .before .before .before .before .r .given .1) (c .before .before .before .before .before .before .before .before .before .before .literal .ensures)) _ (known-tok (c .before .before .before .before .r2 .given .1) (c .before .before .before .before .before .before .glue .ensures)) (c .before .before .if1 .left) (c .match3 .keys2) (c .before .version .ensures)
@@ -50,16 +35,16 @@ pub declaration-spec : {M : Type 1} → statement M
 declaration-spec =
     tie.close
     (tie.spec
-    slice-aggregate-literal
-    literal-requires
-    enum-known-r
+    (λ c. search needs)
+    (λ c κs. search needs)
+    (λ c. search needs)
     returns
     glue-requires
-    enum-known-r-2
+    (λ c. search needs)
     returns-2
     returns-3
     version-requires
-    enum-known-r-3
+    (λ c. search needs)
     returns-4
     behind-version-requires
     returns-5)

@@ -5,18 +5,6 @@ use borrow.Author.Needs.{needs}
 use Rattle.reader.proofs.declaration.encoding.Statement.{statement}
 use Rattle.reader.proofs.declaration.encoding.Tie as tie
 
-slice-aggregate-setting-of : tie.Need-slice-aggregate-setting-of
-slice-aggregate-setting-of c = search needs
-
-slice-aggregate-setting-of-2 : tie.Need-slice-aggregate-setting-of-2
-slice-aggregate-setting-of-2 c = search needs
-
-slice-aggregate-setting-of-3 : tie.Need-slice-aggregate-setting-of-3
-slice-aggregate-setting-of-3 c = search needs
-
-setting-of-requires : tie.Need-setting-of-requires
-setting-of-requires c κs = search needs
-
 returns : tie.Need-returns
 returns c = setting-as encoding-pairs (c .setting-of .ensures)
 
@@ -24,8 +12,8 @@ pub encoding-spec : {M : Type 1} → statement M
 encoding-spec =
     tie.close
     (tie.spec
-    slice-aggregate-setting-of
-    slice-aggregate-setting-of-2
-    slice-aggregate-setting-of-3
-    setting-of-requires
+    (λ c. search needs)
+    (λ c. search needs)
+    (λ c. search needs)
+    (λ c κs. search needs)
     returns)

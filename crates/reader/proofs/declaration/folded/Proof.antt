@@ -16,44 +16,14 @@ abbrev μ-loop : tie.MeasureT-loop
 loop-holds : tie.Need-loop-holds Inv-loop μ-loop
 loop-holds c = fold-start _ _ _ _ (c .before .before .before .pre .0)
 
-sub-if1 : tie.Need-sub-if1 Inv-loop μ-loop
-sub-if1 c = omega arith
-
 returns : tie.Need-returns Inv-loop μ-loop
 returns c = fold-open _ _ _ _ (c .before .before .before .before .before .before .pre .1) _ (c .before .before .loop .inv) (c .before .loop-test .taken) (omega arith)
-
-shared-slice-read-is-either : tie.Need-shared-slice-read-is-either Inv-loop μ-loop
-shared-slice-read-is-either c = omega arith
-
-shared-slice-read-is-either-2 : tie.Need-shared-slice-read-is-either-2 Inv-loop μ-loop
-shared-slice-read-is-either-2 c = omega arith
-
-add-is-either : tie.Need-add-is-either Inv-loop μ-loop
-add-is-either c = omega arith
-
-shared-slice-read-is-either-3 : tie.Need-shared-slice-read-is-either-3 Inv-loop μ-loop
-shared-slice-read-is-either-3 c = omega arith
-
-is-either-requires : tie.Need-is-either-requires Inv-loop μ-loop
-is-either-requires c κs = tt
-
-add-k : tie.Need-add-k Inv-loop μ-loop
-add-k c = omega arith
-
-loop-less : tie.Need-loop-less Inv-loop μ-loop
-loop-less c = omega arith
 
 loop-again : tie.Need-loop-again Inv-loop μ-loop
 loop-again c = fold-next _ _ _ _ (c .before .before .before .before .before .before .before .before .before .before .before .pre .1) _ (c .before .before .before .before .before .before .before .loop .inv) (c .before .before .before .before .before .before .loop-test .taken) (omega arith) (sym (c .before .is-either .ensures) ∙ c .if2 .taken)
 
-add-t16 : tie.Need-add-t16 Inv-loop μ-loop
-add-t16 c = omega arith
-
 returns-2 : tie.Need-returns-2 Inv-loop μ-loop
 returns-2 c = fold-bad _ _ _ _ (c .before .before .before .before .before .before .before .before .before .before .before .pre .1) _ (c .before .before .before .before .before .before .before .loop .inv) (c .before .before .before .before .before .before .loop-test .taken) (omega arith) (sym (c .before .is-either .ensures) ∙ c .if2 .left)
-
-add-t17 : tie.Need-add-t17 Inv-loop μ-loop
-add-t17 c = omega arith
 
 returns-3 : tie.Need-returns-3 Inv-loop μ-loop
 returns-3 c = fold-done _ _ _ _ (c .before .before .before .before .before .pre .1) _ (c .before .loop .inv) (c .loop-test .left)
@@ -65,17 +35,17 @@ folded-spec =
     Inv-loop
     μ-loop
     loop-holds
-    sub-if1
+    (λ c. omega arith)
     returns
-    shared-slice-read-is-either
-    shared-slice-read-is-either-2
-    add-is-either
-    shared-slice-read-is-either-3
-    is-either-requires
-    add-k
-    loop-less
+    (λ c. omega arith)
+    (λ c. omega arith)
+    (λ c. omega arith)
+    (λ c. omega arith)
+    (λ c κs. tt)
+    (λ c. omega arith)
+    (λ c. omega arith)
     loop-again
-    add-t16
+    (λ c. omega arith)
     returns-2
-    add-t17
+    (λ c. omega arith)
     returns-3)

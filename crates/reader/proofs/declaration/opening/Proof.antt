@@ -7,20 +7,11 @@ use borrow.Author.Needs.{needs}
 use Rattle.reader.proofs.declaration.opening.Statement.{statement}
 use Rattle.reader.proofs.declaration.opening.Tie as tie
 
-literal-requires : tie.Need-literal-requires
-literal-requires c κs = search needs
-
-enum-known-r : tie.Need-enum-known-r
-enum-known-r c = search needs
-
 returns : tie.Need-returns
 returns c = opening-name-fails _ _ _ (c .match .keys2) (c .before .literal .ensures)
 
 glued-requires : tie.Need-glued-requires
 glued-requires c κs = let g = known (c .before .r .given .1) (c .before .before .before .literal .ensures) in omega arith
-
-enum-known-r-2 : tie.Need-enum-known-r-2
-enum-known-r-2 c = search needs
 
 returns-2 : tie.Need-returns-2
 returns-2 c = opening-equals-fails _ _ _ _ (known (c .before .before .before .r .given .1) (c .before .before .before .before .before .literal .ensures)) (c .match2 .keys2) (c .before .glued .ensures)
@@ -28,17 +19,11 @@ returns-2 c = opening-equals-fails _ _ _ _ (known (c .before .before .before .r 
 glue-requires : tie.Need-glue-requires
 glue-requires c κs = let g = known (c .before .r2 .given .1) (c .before .before .before .glued .ensures) in omega arith
 
-enum-known-r-3 : tie.Need-enum-known-r-3
-enum-known-r-3 c = search needs
-
 returns-3 : tie.Need-returns-3
 returns-3 c = opening-glue-fails _ _ _ _ (known (c .before .before .before .before .before .before .before .r .given .1) (c .before .before .before .before .before .before .before .before .before .literal .ensures)) _ (known (c .before .before .before .r2 .given .1) (c .before .before .before .before .before .glued .ensures)) (c .match3 .keys2) (c .before .glue .ensures)
 
 shared-slice-read-is-either : tie.Need-shared-slice-read-is-either
 shared-slice-read-is-either c = let g = known-tok (c .before .before .r3 .given .1) (c .before .before .before .before .glue .ensures) in omega arith
-
-is-either-requires : tie.Need-is-either-requires
-is-either-requires c κs = search needs
 
 add-t13 : tie.Need-add-t13
 add-t13 c = let g = known-tok (c .before .before .before .before .r3 .given .1) (c .before .before .before .before .before .before .glue .ensures) in omega arith
@@ -53,17 +38,17 @@ pub opening-spec : {M : Type 1} → statement M
 opening-spec =
     tie.close
     (tie.spec
-    literal-requires
-    enum-known-r
+    (λ c κs. search needs)
+    (λ c. search needs)
     returns
     glued-requires
-    enum-known-r-2
+    (λ c. search needs)
     returns-2
     glue-requires
-    enum-known-r-3
+    (λ c. search needs)
     returns-3
     shared-slice-read-is-either
-    is-either-requires
+    (λ c κs. search needs)
     add-t13
     returns-4
     returns-5)

@@ -6,12 +6,6 @@ use borrow.Author.Needs.{needs}
 use Rattle.reader.proofs.declaration.setting_of.Statement.{statement}
 use Rattle.reader.proofs.declaration.setting_of.Tie as tie
 
-opening-requires : tie.Need-opening-requires
-opening-requires c κs = search needs
-
-enum-known-r : tie.Need-enum-known-r
-enum-known-r c = search needs
-
 returns : tie.Need-returns
 returns c = setting-opening-fails _ _ _ _ (c .match .keys2) (c .before .opening .ensures)
 
@@ -23,9 +17,6 @@ shared-slice-read-q c = let g = known-open (c .before .before .r .given .1) (c .
 
 folded-requires : tie.Need-folded-requires
 folded-requires c κs = let g = known-open (c .before .before .r .given .1) (c .before .before .before .before .opening .ensures) in (omega arith, c .before .before .before .before .before .before .before .before .before .pre .1)
-
-enum-known-r-2 : tie.Need-enum-known-r-2
-enum-known-r-2 c = search needs
 
 returns-2 : tie.Need-returns-2
 returns-2 c = setting-word-fails _ _ _ _ _ (known-open (c .before .before .before .before .r .given .1) (c .before .before .before .before .before .before .opening .ensures)) (c .match2 .keys2) (c .before .folded .ensures)
@@ -40,13 +31,13 @@ pub setting-of-spec : {M : Type 1} → statement M
 setting-of-spec =
     tie.close
     (tie.spec
-    opening-requires
-    enum-known-r
+    (λ c κs. search needs)
+    (λ c. search needs)
     returns
     sub-q
     shared-slice-read-q
     folded-requires
-    enum-known-r-2
+    (λ c. search needs)
     returns-2
     byte-requires
     returns-3)

@@ -9,15 +9,6 @@ use Rattle.reader.proofs.declaration.standalone_or_end.Tie as tie
 returns : tie.Need-returns
 returns c = standalone-or-end-stops _ _ (c .if1 .taken)
 
-shared-slice-read-if2 : tie.Need-shared-slice-read-if2
-shared-slice-read-if2 c = search needs
-
-standalone-requires : tie.Need-standalone-requires
-standalone-requires c κs = search needs
-
-enum-known-r : tie.Need-enum-known-r
-enum-known-r c = search needs
-
 returns-2 : tie.Need-returns-2
 returns-2 c = standalone-or-end-fails _ _ (c .before .before .before .before .if1 .left) (c .before .before .if2 .taken) (c .match .keys2) (c .before .standalone .ensures)
 
@@ -27,12 +18,6 @@ behind-standalone-requires c κs = let g = known-setting (c .before .r .given .1
 returns-3 : tie.Need-returns-3
 returns-3 c = standalone-or-end-there _ _ (c .before .before .before .before .before .before .before .if1 .left) (c .before .before .before .before .before .if2 .taken) (known-setting (c .before .before .r .given .1) (c .before .before .before .before .standalone .ensures)) (c .behind-standalone .ensures)
 
-slice-aggregate-literal : tie.Need-slice-aggregate-literal
-slice-aggregate-literal c = search needs
-
-literal-requires : tie.Need-literal-requires
-literal-requires c κs = search needs
-
 returns-4 : tie.Need-returns-4
 returns-4 c = standalone-or-end-ends _ _ (c .before .before .before .before .if1 .left) (c .before .before .if2 .left) (c .literal .ensures)
 
@@ -41,12 +26,12 @@ standalone-or-end-spec =
     tie.close
     (tie.spec
     returns
-    shared-slice-read-if2
-    standalone-requires
-    enum-known-r
+    (λ c. search needs)
+    (λ c κs. search needs)
+    (λ c. search needs)
     returns-2
     behind-standalone-requires
     returns-3
-    slice-aggregate-literal
-    literal-requires
+    (λ c. search needs)
+    (λ c κs. search needs)
     returns-4)

@@ -7,23 +7,8 @@ use Rattle.reader.proofs.declaration.yes_no.Tie as tie
 returns : tie.Need-returns
 returns c = yes-open _ _ (c .if1 .taken)
 
-shared-slice-read-if2 : tie.Need-shared-slice-read-if2
-shared-slice-read-if2 c = search needs
-
-slice-aggregate-literal : tie.Need-slice-aggregate-literal
-slice-aggregate-literal c = search needs
-
-literal-requires : tie.Need-literal-requires
-literal-requires c κs = search needs
-
 returns-2 : tie.Need-returns-2
 returns-2 c = yes-yes _ _ (c .before .before .before .before .if1 .left) (c .before .before .if2 .taken) (c .literal .ensures)
-
-slice-aggregate-literal-2 : tie.Need-slice-aggregate-literal-2
-slice-aggregate-literal-2 c = search needs
-
-literal-requires-2 : tie.Need-literal-requires-2
-literal-requires-2 c κs = search needs
 
 returns-3 : tie.Need-returns-3
 returns-3 c = yes-no _ _ (c .before .before .before .before .if1 .left) (c .before .before .if2 .left) (c .literal2 .ensures)
@@ -33,10 +18,10 @@ yes-no-spec =
     tie.close
     (tie.spec
     returns
-    shared-slice-read-if2
-    slice-aggregate-literal
-    literal-requires
+    (λ c. search needs)
+    (λ c. search needs)
+    (λ c κs. search needs)
     returns-2
-    slice-aggregate-literal-2
-    literal-requires-2
+    (λ c. search needs)
+    (λ c κs. search needs)
     returns-3)

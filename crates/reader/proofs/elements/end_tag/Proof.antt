@@ -5,29 +5,11 @@ use borrow.Author.Needs.{needs}
 use Rattle.reader.proofs.elements.end_tag.Statement.{statement}
 use Rattle.reader.proofs.elements.end_tag.Tie as tie
 
-byte-requires : tie.Need-byte-requires
-byte-requires c κs = search needs
-
-enum-known-r : tie.Need-enum-known-r
-enum-known-r c = search needs
-
 returns : tie.Need-returns
 returns c = end-1 _ _ _ (c .match .keys2) (c .before .byte .ensures)
 
-sub-literal : tie.Need-sub-literal
-sub-literal c = search needs
-
-part-literal-start : tie.Need-part-literal-start
-part-literal-start c = search needs
-
-part-literal-end : tie.Need-part-literal-end
-part-literal-end c = search needs
-
 literal-requires : tie.Need-literal-requires
 literal-requires c κs = let g = known (c .before .before .r .given .1) (c .before .before .before .before .byte .ensures) in omega arith
-
-enum-known-r-2 : tie.Need-enum-known-r-2
-enum-known-r-2 c = search needs
 
 returns-2 : tie.Need-returns-2
 returns-2 c = end-2 _ _ _ _ (known (c .before .before .before .before .r .given .1) (c .before .before .before .before .before .before .byte .ensures)) (c .match2 .keys2) (c .before .literal .ensures)
@@ -42,14 +24,14 @@ pub end-tag-spec : {M : Type 1} → statement M
 end-tag-spec =
     tie.close
     (tie.spec
-    byte-requires
-    enum-known-r
+    (λ c κs. search needs)
+    (λ c. search needs)
     returns
-    sub-literal
-    part-literal-start
-    part-literal-end
+    (λ c. search needs)
+    (λ c. search needs)
+    (λ c. search needs)
     literal-requires
-    enum-known-r-2
+    (λ c. search needs)
     returns-2
     glued-requires
     returns-3)

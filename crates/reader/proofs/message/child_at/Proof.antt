@@ -6,29 +6,14 @@ use borrow.Author.Needs.{needs}
 use Rattle.reader.proofs.message.child_at.Statement.{statement}
 use Rattle.reader.proofs.message.child_at.Tie as tie
 
-start-tag-requires : tie.Need-start-tag-requires
-start-tag-requires c κs = search needs
-
-enum-known-r : tie.Need-enum-known-r
-enum-known-r c = search needs
-
-same-length : tie.Need-same-length
-same-length c = search needs
-
 returns : tie.Need-returns
 returns c = child-fails _ _ _ _ _ _ (c .match .keys2) (c .before .before .before .start-tag .ensures)
-
-same-length-2 : tie.Need-same-length-2
-same-length-2 c = search needs
 
 returns-2 : tie.Need-returns-2
 returns-2 c = child-empty _ _ _ _ _ _ _ (known-start (c .before .before .r .given .1) (c .before .before .before .before .before .before .start-tag .ensures)) (c .if1 .taken)
 
 content-requires : tie.Need-content-requires
 content-requires c κs = let g = known-start (c .before .before .r .given .1) (c .before .before .before .before .before .before .start-tag .ensures) in let l = g .lines in (omega arith, omega arith, omega arith)
-
-same-length-3 : tie.Need-same-length-3
-same-length-3 c = search needs
 
 returns-3 : tie.Need-returns-3
 returns-3 c = child-full _ _ _ _ _ _ _ (known-start (c .before .before .before .r .given .1) (c .before .before .before .before .before .before .before .start-tag .ensures)) (c .before .before .before .r .given .1) (c .before .if1 .left) (c .content .ensures)
@@ -37,12 +22,12 @@ pub child-at-spec : {M : Type 1} → statement M
 child-at-spec =
     tie.close
     (tie.spec
-    start-tag-requires
-    enum-known-r
-    same-length
+    (λ c κs. search needs)
+    (λ c. search needs)
+    (λ c. search needs)
     returns
-    same-length-2
+    (λ c. search needs)
     returns-2
     content-requires
-    same-length-3
+    (λ c. search needs)
     returns-3)

@@ -9,35 +9,17 @@ use borrow.Author.Needs.{needs}
 use Rattle.reader.proofs.message.declared.Statement.{statement}
 use Rattle.reader.proofs.message.declared.Tie as tie
 
-declaration-requires : tie.Need-declaration-requires
-declaration-requires c κs = search needs
-
-enum-known-r : tie.Need-enum-known-r
-enum-known-r c = search needs
-
-without-requires : tie.Need-without-requires
-without-requires c κs = search needs
-
 returns : tie.Need-returns
 returns c = inner-fails childOf declaredLead _ _ _ _ (c .without .ensures) (c .before .match .keys2) (declared-fails _ _ (c .before .match .keys2) (c .before .before .declaration .ensures))
 
 bits-requires : tie.Need-bits-requires
 bits-requires c κs = let g = known (c .before .r .given .1) (c .before .before .before .declaration .ensures) in omega arith
 
-enum-known-r-2 : tie.Need-enum-known-r-2
-enum-known-r-2 c = search needs
-
-without-requires-2 : tie.Need-without-requires-2
-without-requires-2 c κs = search needs
-
 returns-2 : tie.Need-returns-2
 returns-2 c = inner-fails childOf declaredLead _ _ _ _ (c .without2 .ensures) (c .before .match2 .keys2) (declared-filler-fails _ _ _ (known (c .before .before .before .before .r .given .1) (c .before .before .before .before .before .before .declaration .ensures)) (c .before .match2 .keys2) (c .before .before .bits .ensures))
 
 root-requires : tie.Need-root-requires
 root-requires c κs = let g = known-filler (c .before .before .r2 .given .1) (c .before .before .before .before .bits .ensures) in omega arith
-
-same-length : tie.Need-same-length
-same-length c = search needs
 
 returns-3 : tie.Need-returns-3
 returns-3 c = declared-read _ _ _ (known (c .before .before .before .before .before .before .before .before .before .r .given .1) (c .before .before .before .before .before .before .before .before .before .before .before .declaration .ensures)) _ (known-filler (c .before .before .before .before .before .r2 .given .1) (c .before .before .before .before .before .before .before .bits .ensures)) (c .before .before .root .ensures)
@@ -46,14 +28,14 @@ pub declared-spec : {M : Type 1} → statement M
 declared-spec =
     tie.close
     (tie.spec
-    declaration-requires
-    enum-known-r
-    without-requires
+    (λ c κs. search needs)
+    (λ c. search needs)
+    (λ c κs. search needs)
     returns
     bits-requires
-    enum-known-r-2
-    without-requires-2
+    (λ c. search needs)
+    (λ c κs. search needs)
     returns-2
     root-requires
-    same-length
+    (λ c. search needs)
     returns-3)

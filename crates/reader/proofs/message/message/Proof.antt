@@ -8,44 +8,14 @@ use borrow.Author.Needs.{needs}
 use Rattle.reader.proofs.message.message.Statement.{statement}
 use Rattle.reader.proofs.message.message.Tie as tie
 
-byte-requires : tie.Need-byte-requires
-byte-requires c κs = search needs
-
-enum-known-r : tie.Need-enum-known-r
-enum-known-r c = search needs
-
-without-requires : tie.Need-without-requires
-without-requires c κs = search needs
-
 returns : tie.Need-returns
 returns c = inner-fails childOf lead _ _ _ _ (c .without .ensures) (c .before .match .keys2) (message-fails _ _ (c .before .match .keys2) (c .before .before .byte .ensures))
-
-without-requires-2 : tie.Need-without-requires-2
-without-requires-2 c κs = search needs
 
 returns-2 : tie.Need-returns-2
 returns-2 c = inner-fails childOf lead _ _ _ _ (c .without2 .ensures) (inl refl) (message-open _ _ _ (known (c .before .before .before .r .given .1) (c .before .before .before .before .before .byte .ensures)) (c .before .if1 .taken))
 
-shared-slice-read-if2 : tie.Need-shared-slice-read-if2
-shared-slice-read-if2 c = search needs
-
-add-declared : tie.Need-add-declared
-add-declared c = search needs
-
-declared-requires : tie.Need-declared-requires
-declared-requires c κs = search needs
-
-same-length : tie.Need-same-length
-same-length c = search needs
-
 returns-3 : tie.Need-returns-3
 returns-3 c = message-declared _ _ _ (known (c .before .before .before .before .before .before .before .before .r .given .1) (c .before .before .before .before .before .before .before .before .before .before .byte .ensures)) (c .before .before .before .before .before .before .if1 .left) (c .before .before .before .before .if2 .taken) (c .before .before .declared .ensures)
-
-root-requires : tie.Need-root-requires
-root-requires c κs = search needs
-
-same-length-2 : tie.Need-same-length-2
-same-length-2 c = search needs
 
 returns-4 : tie.Need-returns-4
 returns-4 c = message-plain _ _ _ (known (c .before .before .before .before .before .before .before .before .r .given .1) (c .before .before .before .before .before .before .before .before .before .before .byte .ensures)) (c .before .before .before .before .before .before .if1 .left) (c .before .before .before .before .if2 .left) (c .before .before .root .ensures)
@@ -54,17 +24,17 @@ pub message-spec : {M : Type 1} → statement M
 message-spec =
     tie.close
     (tie.spec
-    byte-requires
-    enum-known-r
-    without-requires
+    (λ c κs. search needs)
+    (λ c. search needs)
+    (λ c κs. search needs)
     returns
-    without-requires-2
+    (λ c κs. search needs)
     returns-2
-    shared-slice-read-if2
-    add-declared
-    declared-requires
-    same-length
+    (λ c. search needs)
+    (λ c. search needs)
+    (λ c κs. search needs)
+    (λ c. search needs)
     returns-3
-    root-requires
-    same-length-2
+    (λ c κs. search needs)
+    (λ c. search needs)
     returns-4)

@@ -8,32 +8,11 @@ use borrow.Author.Needs.{needs}
 use Rattle.reader.proofs.message.root.Statement.{statement}
 use Rattle.reader.proofs.message.root.Tie as tie
 
-slice-aggregate-literal : tie.Need-slice-aggregate-literal
-slice-aggregate-literal c = search needs
-
-literal-requires : tie.Need-literal-requires
-literal-requires c κs = search needs
-
-enum-known-r : tie.Need-enum-known-r
-enum-known-r c = search needs
-
-without-requires : tie.Need-without-requires
-without-requires c κs = search needs
-
 returns : tie.Need-returns
 returns c = inner-fails innerOf rootLead _ _ _ _ (c .without .ensures) (c .before .match .keys2) (root-name-fails _ _ (c .before .match .keys2) (c .before .before .literal .ensures))
 
-slice-aggregate-head : tie.Need-slice-aggregate-head
-slice-aggregate-head c = search needs
-
 head-requires : tie.Need-head-requires
 head-requires c κs = let g = known (c .before .before .r .given .1) (c .before .before .before .before .literal .ensures) in omega arith
-
-enum-known-r-2 : tie.Need-enum-known-r-2
-enum-known-r-2 c = search needs
-
-without-requires-2 : tie.Need-without-requires-2
-without-requires-2 c κs = search needs
 
 returns-2 : tie.Need-returns-2
 returns-2 c = inner-fails innerOf rootLead _ _ _ _ (c .without2 .ensures) (c .before .match2 .keys2) (root-tag-fails _ _ _ (known (c .before .before .before .before .before .before .r .given .1) (c .before .before .before .before .before .before .before .before .literal .ensures)) (c .before .match2 .keys2) (c .before .before .before .head .ensures))
@@ -41,20 +20,11 @@ returns-2 c = inner-fails innerOf rootLead _ _ _ _ (c .without2 .ensures) (c .be
 filler-lt-requires : tie.Need-filler-lt-requires
 filler-lt-requires c κs = let h = known-head (c .before .r2 .given .1) (c .before .before .before .before .head .ensures) in omega arith
 
-enum-known-r-3 : tie.Need-enum-known-r-3
-enum-known-r-3 c = search needs
-
-without-requires-3 : tie.Need-without-requires-3
-without-requires-3 c κs = search needs
-
 returns-3 : tie.Need-returns-3
 returns-3 c = inner-fails innerOf rootLead _ _ _ _ (c .without3 .ensures) (c .before .match3 .keys2) (root-filler-fails _ _ _ (known (c .before .before .before .before .before .before .before .before .before .before .r .given .1) (c .before .before .before .before .before .before .before .before .before .before .before .before .literal .ensures)) _ (known-head (c .before .before .before .before .r2 .given .1) (c .before .before .before .before .before .before .before .head .ensures)) (c .before .match3 .keys2) (c .before .before .filler-lt .ensures))
 
 inside-requires : tie.Need-inside-requires
 inside-requires c κs = let g = known (c .before .before .before .before .before .before .before .before .before .before .before .before .r .given .1) (c .before .before .before .before .before .before .before .before .before .before .before .before .before .before .literal .ensures) in let h = known-filler (c .before .before .r3 .given .1) (c .before .before .before .before .filler-lt .ensures) in (omega arith, omega arith, omega arith)
-
-same-length : tie.Need-same-length
-same-length c = search needs
 
 returns-4 : tie.Need-returns-4
 returns-4 c = root-read _ _ _ (known (c .before .before .before .before .before .before .before .before .before .before .before .before .before .before .before .r .given .1) (c .before .before .before .before .before .before .before .before .before .before .before .before .before .before .before .before .before .literal .ensures)) _ (known-head (c .before .before .before .before .before .before .before .before .before .r2 .given .1) (c .before .before .before .before .before .before .before .before .before .before .before .before .head .ensures)) _ (known-filler (c .before .before .before .before .before .r3 .given .1) (c .before .before .before .before .before .before .before .filler-lt .ensures)) (c .before .before .inside .ensures)
@@ -63,20 +33,20 @@ pub root-spec : {M : Type 1} → statement M
 root-spec =
     tie.close
     (tie.spec
-    slice-aggregate-literal
-    literal-requires
-    enum-known-r
-    without-requires
+    (λ c. search needs)
+    (λ c κs. search needs)
+    (λ c. search needs)
+    (λ c κs. search needs)
     returns
-    slice-aggregate-head
+    (λ c. search needs)
     head-requires
-    enum-known-r-2
-    without-requires-2
+    (λ c. search needs)
+    (λ c κs. search needs)
     returns-2
     filler-lt-requires
-    enum-known-r-3
-    without-requires-3
+    (λ c. search needs)
+    (λ c κs. search needs)
     returns-3
     inside-requires
-    same-length
+    (λ c. search needs)
     returns-4)

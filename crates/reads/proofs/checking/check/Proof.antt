@@ -7,12 +7,6 @@ use Rattle.reads.proofs.checking.check.Reads as reads
 use Rattle.reads.proofs.checking.check.Lts as lts
 use Rattle.reads.proofs.checking.check_into.Reads as check-into-reads
 
-slice-aggregate-check-into : tie.Need-slice-aggregate-check-into
-slice-aggregate-check-into c = search needs
-
-check-into-requires : tie.Need-check-into-requires
-check-into-requires c κs = search needs
-
 returns : tie.Need-returns
 returns c = handed (c .before .before .check-into .ensures)
 
@@ -20,6 +14,6 @@ pub check-spec : {M : Type 1} → statement M
 check-spec =
     tie.close
     (tie.spec
-    slice-aggregate-check-into
-    check-into-requires
+    (λ c. search needs)
+    (λ c κs. search needs)
     returns)

@@ -12,26 +12,11 @@ tell-requires c κs = let n = all-cells (c .before .before .before .before .pre 
 take-id-requires : tie.Need-take-id-requires
 take-id-requires c κs = let n = all-cells (c .before .before .before .before .before .before .before .before .before .before .pre .0) in omega arith
 
-told-requires : tie.Need-told-requires
-told-requires c κs = search needs
-
-same-length : tie.Need-same-length
-same-length c = search needs
-
 returns : tie.Need-returns
 returns c = into-accepted (c .before .before .before .before .before .before .before .before .before .before .before .before .before .before .pre .0) (c .before .before .before .before .before .before .before .before .before .tell .ensures) (c .before .before .before .before .before .if1 .taken) (c .before .before .before .take-id .ensures) (c .told .ensures) (let n = all-cells (c .before .before .before .before .before .before .before .before .before .before .before .before .before .before .pre .0) in omega arith)
-
-clear-requires : tie.Need-clear-requires
-clear-requires c κs = search needs
-
-told-requires-2 : tie.Need-told-requires-2
-told-requires-2 c κs = search needs
-
-same-length-2 : tie.Need-same-length-2
-same-length-2 c = search needs
 
 returns-2 : tie.Need-returns-2
 returns-2 c = into-refused (c .before .before .before .before .before .before .before .before .before .tell .ensures) (c .before .before .before .before .before .if1 .left) (cleared-so (length (c .before .before .before .before .before .before .before .before .before .tell .last .1 .1 .1 .1 .0)) (c .before .before .before .clear .ensures) (let n = all-cells (c .before .before .before .before .before .before .before .before .before .before .before .before .before .before .pre .0) in omega arith)) (c .told2 .ensures)
 
 pub check-outlined-spec : {M : Type 1} → statement M
-check-outlined-spec = tie.close (tie.spec tell-requires take-id-requires told-requires same-length returns clear-requires told-requires-2 same-length-2 returns-2)
+check-outlined-spec = tie.close (tie.spec tell-requires take-id-requires (λ c κs. search needs) (λ c. search needs) returns (λ c κs. search needs) (λ c κs. search needs) (λ c. search needs) returns-2)

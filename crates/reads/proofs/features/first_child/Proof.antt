@@ -13,17 +13,11 @@ Inv-loop s inside name at₀ at = Searched s inside name at
 abbrev μ-loop : tie.MeasureT-loop
 μ-loop s inside name at₀ at = length s - at
 
-unnamed-requires : tie.Need-unnamed-requires Inv-loop μ-loop
-unnamed-requires c κs = tt
-
 returns : tie.Need-returns Inv-loop μ-loop
 returns c = none-inside (c .before .before .before .before .args .s .now) (c .before .before .before .before .args .inside) (c .before .before .before .before .args .name .now) (c .before .if1 .taken) (c .unnamed .ensures)
 
 loop-holds : tie.Need-loop-holds Inv-loop μ-loop
 loop-holds c = search-starts (c .before .before .before .args .s .now) (c .before .before .before .args .inside) (c .before .before .before .args .name .now) (c .if1 .left)
-
-child-requires : tie.Need-child-requires Inv-loop μ-loop
-child-requires c κs = tt
 
 sub-same : tie.Need-sub-same Inv-loop μ-loop
 sub-same c = found-ahead (c .before .child .ensures) (c .if2 .taken) .ordered
@@ -34,9 +28,6 @@ part-same-start c = let a = found-ahead (c .before .child .ensures) (c .if2 .tak
 part-same-end : tie.Need-part-same-end Inv-loop μ-loop
 part-same-end c = let a = found-ahead (c .before .child .ensures) (c .if2 .taken) in let o = a .ordered in let w = a .within in omega arith
 
-same-requires : tie.Need-same-requires Inv-loop μ-loop
-same-requires c κs = tt
-
 returns-2 : tie.Need-returns-2 Inv-loop μ-loop
 returns-2 c = search-finds (c .before .before .before .before .before .loop .inv) (c .before .before .before .before .child .ensures) (c .before .before .before .if2 .taken) (sym (c .if3 .taken) ∙ c .before .same .ensures)
 
@@ -45,9 +36,6 @@ loop-less c = let a = found-ahead (c .before .before .before .before .child .ens
 
 loop-again : tie.Need-loop-again Inv-loop μ-loop
 loop-again c = search-goes-on (c .before .before .before .before .before .loop .inv) (c .before .before .before .before .child .ensures) (c .before .before .before .if2 .taken) (sym (c .if3 .left) ∙ c .before .same .ensures)
-
-unnamed-requires-2 : tie.Need-unnamed-requires-2 Inv-loop μ-loop
-unnamed-requires-2 c κs = tt
 
 returns-3 : tie.Need-returns-3 Inv-loop μ-loop
 returns-3 c = search-ends (c .before .before .before .loop .inv) (c .before .before .child .ensures) (c .before .if2 .left) (c .unnamed2 .ensures)
@@ -58,16 +46,16 @@ first-child-spec =
     (tie.spec
     Inv-loop
     μ-loop
-    unnamed-requires
+    (λ c κs. tt)
     returns
     loop-holds
-    child-requires
+    (λ c κs. tt)
     sub-same
     part-same-start
     part-same-end
-    same-requires
+    (λ c κs. tt)
     returns-2
     loop-less
     loop-again
-    unnamed-requires-2
+    (λ c κs. tt)
     returns-3)

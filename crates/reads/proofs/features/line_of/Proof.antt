@@ -8,9 +8,6 @@ use borrow.Author.Needs.{needs}
 use Rattle.reads.proofs.features.line_of.Statement.{statement}
 use Rattle.reads.proofs.features.line_of.Tie as tie
 
-slice-aggregate-name-at : tie.Need-slice-aggregate-name-at
-slice-aggregate-name-at c = search needs
-
 name-at-requires : tie.Need-name-at-requires
 unfolding names table
 name-at-requires c κs = (refl, c .before .pre, omega arith)
@@ -23,4 +20,4 @@ returns c = c .padded .ensures ∙ c .before .name-at .ensures
 
 pub line-of-spec : {M : Type 1} → statement M
 line-of-spec =
-    tie.close (tie.spec slice-aggregate-name-at name-at-requires padded-requires returns)
+    tie.close (tie.spec (λ c. search needs) name-at-requires padded-requires returns)

@@ -47,9 +47,6 @@ part-same-start c = let z = placed-at (c .before .before .before .before .before
 part-same-end : tie.Need-part-same-end
 part-same-end c = let z = placed-at (c .before .before .before .before .before .pre .0) (c .before .before .before .before .before .pre .1) in omega (arith, z .long, z .name-order, z .name-in, z .value-order, z .value-in)
 
-same-requires : tie.Need-same-requires
-same-requires c κs = search needs
-
 returns : tie.Need-returns
 returns c = c .same .ensures
 
@@ -71,5 +68,5 @@ is-named-spec =
     sub-same
     part-same-start
     part-same-end
-    same-requires
+    (λ c κs. search needs)
     returns)

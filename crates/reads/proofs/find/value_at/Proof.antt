@@ -44,9 +44,6 @@ add-end-2 c = let z = placed-at (c .before .before .pre .0) (c .before .before .
 sub-t8 : tie.Need-sub-t8
 sub-t8 c = let z = placed-at (c .before .before .pre .0) (c .before .before .pre .1) in omega (arith, z .long, z .name-order, z .name-in, z .value-order, z .value-in)
 
-returns : tie.Need-returns
-returns c = refl
-
 pub value-at-spec : {M : Type 1} → statement M
 value-at-spec =
     tie.close
@@ -64,4 +61,4 @@ value-at-spec =
     cast-end
     add-end-2
     sub-t8
-    returns)
+    (λ c. refl))

@@ -9,11 +9,8 @@ kept : (a b : ℕ) → (a ≡ 0 → ⊥) → a ≡ first a b
 kept zero b n = absurd (n refl)
 kept (suc a) b n = refl
 
-returns : tie.Need-returns
-returns c = search needs
-
 returns-2 : tie.Need-returns-2
 returns-2 c = kept (c .before .args .a) (c .before .args .b) (c .if1 .left)
 
 pub first-spec : {M : Type 1} → statement M
-first-spec = tie.close (tie.spec returns returns-2)
+first-spec = tie.close (tie.spec (λ c. search needs) returns-2)

@@ -11,26 +11,8 @@ use Rattle.reads.proofs.ids.id_of.Reads as id-of-reads
 returns : tie.Need-returns
 returns c = outside-id (let z = c .if1 .taken in omega arith)
 
-sub-if2 : tie.Need-sub-if2
-sub-if2 c = search needs
-
 returns-2 : tie.Need-returns-2
 returns-2 c = outside-id (let z = c .before .if1 .left in let y = c .if2 .taken in omega arith)
-
-add-id-of : tie.Need-add-id-of
-add-id-of c = search needs
-
-sub-id-of : tie.Need-sub-id-of
-sub-id-of c = search needs
-
-part-id-of-start : tie.Need-part-id-of-start
-part-id-of-start c = search needs
-
-part-id-of-end : tie.Need-part-id-of-end
-part-id-of-end c = search needs
-
-id-of-requires : tie.Need-id-of-requires
-id-of-requires c κs = search needs
 
 returns-3 : tie.Need-returns-3
 returns-3 c = inside-id (c .id-of .ensures)
@@ -40,11 +22,11 @@ id-at-spec =
     tie.close
     (tie.spec
     returns
-    sub-if2
+    (λ c. search needs)
     returns-2
-    add-id-of
-    sub-id-of
-    part-id-of-start
-    part-id-of-end
-    id-of-requires
+    (λ c. search needs)
+    (λ c. search needs)
+    (λ c. search needs)
+    (λ c. search needs)
+    (λ c κs. search needs)
     returns-3)

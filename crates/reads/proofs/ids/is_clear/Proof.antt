@@ -24,9 +24,6 @@ loop-holds c = (c .if1 .left, clear-none (c .before .before .args .raw .now))
 shared-slice-read-least : tie.Need-shared-slice-read-least Inv-loop μ-loop
 shared-slice-read-least c = let l = c .before .before .loop .inv .0 in let u = c .before .loop-test .taken in omega arith
 
-least-requires : tie.Need-least-requires Inv-loop μ-loop
-least-requires c κs = tt
-
 add-k : tie.Need-add-k Inv-loop μ-loop
 add-k c = let u = c .before .before .loop-test .taken in omega arith
 
@@ -48,7 +45,7 @@ is-clear-spec =
     returns
     loop-holds
     shared-slice-read-least
-    least-requires
+    (λ c κs. tt)
     add-k
     loop-less
     loop-again

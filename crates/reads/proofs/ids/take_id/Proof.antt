@@ -11,32 +11,11 @@ use Rattle.reads.proofs.kind_rows.put.Reads as put-reads
 use Rattle.reads.proofs.ids.id_at.Reads as id-at-reads
 use Rattle.rows.proofs.data.id_cell.Reads as id-cell-reads
 
-id-cell-requires : tie.Need-id-cell-requires
-id-cell-requires c κs = search needs
-
 returns : tie.Need-returns
 returns c = takes-none (c .before .before .before .before .args .s .now) (c .before .before .before .before .args .kind) (c .before .before .before .before .args .cells .now) (c .before .id-cell .ensures) (c .before .before .before .before .pre) (c .if1 .taken)
 
-mul-there : tie.Need-mul-there
-mul-there c = search needs
-
-slice-read-there : tie.Need-slice-read-there
-slice-read-there c = search needs
-
-add-start : tie.Need-add-start
-add-start c = search needs
-
-mul-start : tie.Need-mul-start
-mul-start c = search needs
-
 slice-read-start : tie.Need-slice-read-start
 slice-read-start c = let p = (c .before .before .before .before .before .before .pre) in let e = c .before .before .before .id-cell .ensures in let h = c .before .before .if1 .left in let z = cell-in (c .before .before .before .before .before .before .args .kind) (omega arith) in omega arith
-
-add-len : tie.Need-add-len
-add-len c = search needs
-
-mul-len : tie.Need-mul-len
-mul-len c = search needs
 
 slice-read-len : tie.Need-slice-read-len
 slice-read-len c = let p = (c .before .before .before .before .before .before .before .pre) in let e = c .before .before .before .before .id-cell .ensures in let h = c .before .before .before .if1 .left in let z = cell-in (c .before .before .before .before .before .before .before .args .kind) (omega arith) in omega arith
@@ -44,17 +23,8 @@ slice-read-len c = let p = (c .before .before .before .before .before .before .b
 put-requires : tie.Need-put-requires
 put-requires c κs = let p = (c .before .before .before .before .before .before .before .before .pre) in let e = c .before .before .before .before .before .id-cell .ensures in let h = c .before .before .before .before .if1 .left in let z = cell-in (c .before .before .before .before .before .before .before .before .args .kind) (omega arith) in omega arith
 
-same-length : tie.Need-same-length
-same-length c = search needs
-
 returns-2 : tie.Need-returns-2
 returns-2 c = takes-absent (c .before .before .before .before .before .before .before .before .before .before .before .before .args .s .now) (c .before .before .before .before .before .before .before .before .before .before .before .before .args .kind) (c .before .before .before .before .before .before .before .before .before .before .before .before .args .cells .now) (c .before .before .before .before .before .before .before .before .before .id-cell .ensures) (c .before .before .before .before .before .before .before .before .before .before .before .before .pre) (let h = c .before .before .before .before .before .before .before .before .if1 .left in omega arith) (c .before .before .before .put .ensures) (c .if2 .taken)
-
-id-at-requires : tie.Need-id-at-requires
-id-at-requires c κs = search needs
-
-same-length-2 : tie.Need-same-length-2
-same-length-2 c = search needs
 
 returns-3 : tie.Need-returns-3
 returns-3 c = takes-there (c .before .before .before .before .before .before .before .before .before .before .before .before .before .args .s .now) (c .before .before .before .before .before .before .before .before .before .before .before .before .before .args .kind) (c .before .before .before .before .before .before .before .before .before .before .before .before .before .args .cells .now) (c .before .before .before .before .before .before .before .before .before .before .id-cell .ensures) (c .before .before .before .before .before .before .before .before .before .before .before .before .before .pre) (let h = c .before .before .before .before .before .before .before .before .before .if1 .left in omega arith) (c .before .before .before .before .put .ensures) (c .before .if2 .left) (c .id-at .ensures)
@@ -63,19 +33,19 @@ pub take-id-spec : {M : Type 1} → statement M
 take-id-spec =
     tie.close
     (tie.spec
-    id-cell-requires
+    (λ c κs. search needs)
     returns
-    mul-there
-    slice-read-there
-    add-start
-    mul-start
+    (λ c. search needs)
+    (λ c. search needs)
+    (λ c. search needs)
+    (λ c. search needs)
     slice-read-start
-    add-len
-    mul-len
+    (λ c. search needs)
+    (λ c. search needs)
     slice-read-len
     put-requires
-    same-length
+    (λ c. search needs)
     returns-2
-    id-at-requires
-    same-length-2
+    (λ c κs. search needs)
+    (λ c. search needs)
     returns-3)

@@ -4,36 +4,6 @@ use borrow.Author.Needs.{needs}
 use Rattle.reads.proofs.judge.judged.Statement.{statement}
 use Rattle.reads.proofs.judge.judged.Tie as tie
 
-text-requires : tie.Need-text-requires
-text-requires c κs = search needs
-
-span-requires : tie.Need-span-requires
-span-requires c κs = search needs
-
-some-text-requires : tie.Need-some-text-requires
-some-text-requires c κs = search needs
-
-span-requires-2 : tie.Need-span-requires-2
-span-requires-2 c κs = search needs
-
-int-requires : tie.Need-int-requires
-int-requires c κs = search needs
-
-guid-requires : tie.Need-guid-requires
-guid-requires c κs = search needs
-
-span-requires-3 : tie.Need-span-requires-3
-span-requires-3 c κs = search needs
-
-version-requires : tie.Need-version-requires
-version-requires c κs = search needs
-
-span-requires-4 : tie.Need-span-requires-4
-span-requires-4 c κs = search needs
-
-size-requires : tie.Need-size-requires
-size-requires c κs = search needs
-
 returns : tie.Need-returns
 returns c = text-arm (c .before .before .match .keys1) (c .before .text .ensures) (c .span .ensures)
 
@@ -56,16 +26,16 @@ pub judged-spec : {M : Type 1} → statement M
 judged-spec =
     tie.close
     (tie.spec
-    text-requires
-    span-requires
-    some-text-requires
-    span-requires-2
-    int-requires
-    guid-requires
-    span-requires-3
-    version-requires
-    span-requires-4
-    size-requires
+    (λ c κs. search needs)
+    (λ c κs. search needs)
+    (λ c κs. search needs)
+    (λ c κs. search needs)
+    (λ c κs. search needs)
+    (λ c κs. search needs)
+    (λ c κs. search needs)
+    (λ c κs. search needs)
+    (λ c κs. search needs)
+    (λ c κs. search needs)
     returns
     returns-2
     returns-3

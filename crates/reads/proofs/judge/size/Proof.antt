@@ -5,17 +5,11 @@ use mathlib.Core.Path.{refl}
 use Rattle.reads.proofs.judge.size.Statement.{statement}
 use Rattle.reads.proofs.judge.size.Tie as tie
 
-number-at-requires : tie.Need-number-at-requires
-number-at-requires c κs = search needs
-
 returns : tie.Need-returns
 returns c = size-good (c .before .number-at .ensures) (c .if1 .taken) refl
-
-bad-requires : tie.Need-bad-requires
-bad-requires c κs = search needs
 
 returns-2 : tie.Need-returns-2
 returns-2 c = size-bad (c .before .before .number-at .ensures) (c .before .if1 .left) (c .bad .ensures)
 
 pub size-spec : {M : Type 1} → statement M
-size-spec = tie.close (tie.spec number-at-requires returns bad-requires returns-2)
+size-spec = tie.close (tie.spec (λ c κs. search needs) returns (λ c κs. search needs) returns-2)

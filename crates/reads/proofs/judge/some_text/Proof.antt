@@ -6,11 +6,8 @@ use Rattle.reads.proofs.judge.some_text.Tie as tie
 returns : tie.Need-returns
 returns c = text-empty (c .before .before .args .limit) (c .if1 .taken)
 
-text-requires : tie.Need-text-requires
-text-requires c κs = search needs
-
 returns-2 : tie.Need-returns-2
 returns-2 c = text-some (c .before .before .before .args .limit) (c .before .if1 .left) (c .text .ensures)
 
 pub some-text-spec : {M : Type 1} → statement M
-some-text-spec = tie.close (tie.spec returns text-requires returns-2)
+some-text-spec = tie.close (tie.spec returns (λ c κs. search needs) returns-2)

@@ -7,15 +7,6 @@ use Rattle.reads.proofs.judge.text.Tie as tie
 returns : tie.Need-returns
 returns c = text-short (c .before .before .args .limit) (c .if1 .taken)
 
-text-len-requires : tie.Need-text-len-requires
-text-len-requires c κs = search needs
-
-enum-known-l : tie.Need-enum-known-l
-enum-known-l c = search needs
-
-enum-told : tie.Need-enum-told
-enum-told c = search needs
-
 returns-2 : tie.Need-returns-2
 returns-2 c = text-unread (c .before .before .before .before .before .args .limit) (c .enum-told .given .1) (c .before .before .text-len .ensures)
 
@@ -28,4 +19,4 @@ returns-4 c = text-long (c .before .before .before .before .before .before .befo
 pub text-spec : {M : Type 1} → statement M
 text-spec =
     tie.close
-    (tie.spec returns text-len-requires enum-known-l enum-told returns-2 returns-3 returns-4)
+    (tie.spec returns (λ c κs. search needs) (λ c. search needs) (λ c. search needs) returns-2 returns-3 returns-4)

@@ -17,9 +17,6 @@ Inv-loop s base table count numbers names cells₀ features from n refusal₀ gu
 abbrev μ-loop : tie.MeasureT-loop
 μ-loop s base table count numbers names cells₀ features from n refusal₀ guess₀ i₀ cells refusal guess i = n - i
 
-rows-of-requires : tie.Need-rows-of-requires Inv-loop μ-loop
-rows-of-requires c κs = tt
-
 loop-holds : tie.Need-loop-holds Inv-loop μ-loop
 loop-holds c = (loop-starts (c .before .before .before .before .before .before .before .args .s .now) (c .before .before .before .before .before .before .before .args .base) (c .before .before .before .before .before .before .before .args .table .now) (c .before .before .before .before .before .before .before .args .count) (c .before .before .before .before .before .before .before .args .sort .features) (c .before .rows-of .result .from) (c .before .rows-of .result .count) (c .before .before .before .before .before .before .before .args .cells .now), omega arith)
 
@@ -37,9 +34,6 @@ mul-put c = let v = room (c .before .before .before .before .before .before .row
 
 put-requires : tie.Need-put-requires Inv-loop μ-loop
 put-requires c κs = let v = room (c .before .before .before .before .before .before .rows-of .ensures) in let u = c .before .before .before .loop-test .taken in let l = c .before .before .before .before .loop .inv .0 .long in let p = c .before .before .before .before .before .before .before .before .before .before .before .before .pre .3 in omega arith
-
-first-requires : tie.Need-first-requires Inv-loop μ-loop
-first-requires c κs = tt
 
 behind-requires : tie.Need-behind-requires Inv-loop μ-loop
 behind-requires c κs = let v = room (c .before .before .before .before .before .before .before .before .before .before .rows-of .ensures) in let u = c .before .before .before .before .before .before .before .loop-test .taken in let g = c .before .before .before .before .before .before .before .before .loop .inv .1 in omega arith
@@ -60,4 +54,4 @@ returns : tie.Need-returns Inv-loop μ-loop
 returns c = loop-ends (c .before .before .before .before .before .before .before .before .before .args .s .now) (c .before .before .before .before .before .before .before .before .before .args .base) (c .before .before .before .before .before .before .before .before .before .args .table .now) (c .before .before .before .before .before .before .before .before .before .args .count) (c .before .before .before .before .before .before .before .before .before .args .sort .features) (c .before .before .before .rows-of .result .from) (c .before .before .before .rows-of .result .count) (c .before .before .before .before .before .before .before .before .before .args .cells .now) (c .before .before .before .before .before .before .before .before .before .args .sort) (c .before .before .before .rows-of .ensures .all) (only-features (c .before .before .before .before .before .before .before .before .before .args .sort) (c .before .before .before .rows-of .ensures)) (c .before .loop .inv .0) (c .loop-test .left)
 
 pub check-rows-spec : {M : Type 1} → statement M
-check-rows-spec = tie.close (tie.spec Inv-loop μ-loop rows-of-requires loop-holds add-row-at row-at-requires try-row-requires mul-put put-requires first-requires behind-requires add-i loop-less loop-again same-length returns)
+check-rows-spec = tie.close (tie.spec Inv-loop μ-loop (λ c κs. tt) loop-holds add-row-at row-at-requires try-row-requires mul-put put-requires (λ c κs. tt) behind-requires add-i loop-less loop-again same-length returns)

@@ -5,26 +5,14 @@ use borrow.Author.Needs.{needs}
 use Rattle.reads.proofs.whole.check_cells.Statement.{statement}
 use Rattle.reads.proofs.whole.check_cells.Tie as tie
 
-slice-aggregate-outline : tie.Need-slice-aggregate-outline
-slice-aggregate-outline c = search needs
-
-outline-requires : tie.Need-outline-requires
-outline-requires c κs = search needs
-
 sort-of-requires : tie.Need-sort-of-requires
 sort-of-requires c κs = (outlined-order (c .before .outline .ensures), outlined-in (c .before .outline .ensures))
 
-slice-aggregate-tell : tie.Need-slice-aggregate-tell
-slice-aggregate-tell c = search needs
-
 tell-requires : tie.Need-tell-requires
 tell-requires c κs = (c .before .before .before .before .before .before .before .before .pre, record { before = _; whole = refl; outlined = c .before .before .before .before .outline .ensures }, c .before .before .sort-of .ensures)
-
-same-length : tie.Need-same-length
-same-length c = search needs
 
 returns : tie.Need-returns
 returns c = c .before .before .tell .ensures
 
 pub check-cells-spec : {M : Type 1} → statement M
-check-cells-spec = tie.close (tie.spec slice-aggregate-outline outline-requires sort-of-requires slice-aggregate-tell tell-requires same-length returns)
+check-cells-spec = tie.close (tie.spec (λ c. search needs) (λ c κs. search needs) sort-of-requires (λ c. search needs) tell-requires (λ c. search needs) returns)

@@ -8,42 +8,9 @@ use borrow.Author.Needs.{needs}
 use Rattle.reads.proofs.whole.tell.Statement.{statement}
 use Rattle.reads.proofs.whole.tell.Tie as tie
 
-enum-known-a : tie.Need-enum-known-a
-enum-known-a c = search needs
-
-slice-aggregate-check-rows : tie.Need-slice-aggregate-check-rows
-slice-aggregate-check-rows c = search needs
-
-slice-aggregate-check-rows-2 : tie.Need-slice-aggregate-check-rows-2
-slice-aggregate-check-rows-2 c = search needs
-
 check-rows-requires : tie.Need-check-rows-requires
 unfolding numbers names table
 check-rows-requires c κs = (accepted-held (accepted (c .before .before .before .before .before .before .before .before .before .pre .1 .outlined) (c .before .before .before .before .a .given .1)) (c .before .before .before .before .before .before .before .before .before .pre .1 .whole), refl, refl, c .before .before .before .before .before .before .before .before .before .pre .0)
-
-made-requires : tie.Need-made-requires
-made-requires c κs = search needs
-
-enum-known-a-2 : tie.Need-enum-known-a-2
-enum-known-a-2 c = search needs
-
-made-requires-2 : tie.Need-made-requires-2
-made-requires-2 c κs = search needs
-
-enum-known-a-3 : tie.Need-enum-known-a-3
-enum-known-a-3 c = search needs
-
-made-requires-3 : tie.Need-made-requires-3
-made-requires-3 c κs = search needs
-
-enum-known-a-4 : tie.Need-enum-known-a-4
-enum-known-a-4 c = search needs
-
-made-requires-4 : tie.Need-made-requires-4
-made-requires-4 c κs = search needs
-
-same-length : tie.Need-same-length
-same-length c = search needs
 
 returns : tie.Need-returns
 returns c = cells-end (c .before .before .before .before .before .before .before .before .before .before .before .before .before .pre .1 .outlined) (c .before .before .before .before .before .before .before .before .a .given .0 .0) (c .before .before .before .before .before .before .before .before .a .given .0 .1 .0) (c .before .before .before .before .before .before .before .before .before .before .before .before .before .pre .1 .whole) (c .before .before .before .before .before .before .before .before .a .given .1) (c .before .before .before .before .before .before .before .before .before .before .before .before .before .pre .2) (c .before .before .before .check-rows .ensures) (c .made .ensures)
@@ -58,4 +25,4 @@ returns-4 : tie.Need-returns-4
 returns-4 c = cells-too-long (c .before .before .before .before .before .before .before .pre .1 .outlined) (c .before .before .a4 .given .0 .0) (c .before .before .a4 .given .1) (c .made4 .ensures)
 
 pub tell-spec : {M : Type 1} → statement M
-tell-spec = tie.close (tie.spec enum-known-a slice-aggregate-check-rows slice-aggregate-check-rows-2 check-rows-requires made-requires enum-known-a-2 made-requires-2 enum-known-a-3 made-requires-3 enum-known-a-4 made-requires-4 same-length returns returns-2 returns-3 returns-4)
+tell-spec = tie.close (tie.spec (λ c. search needs) (λ c. search needs) (λ c. search needs) check-rows-requires (λ c κs. search needs) (λ c. search needs) (λ c κs. search needs) (λ c. search needs) (λ c κs. search needs) (λ c. search needs) (λ c κs. search needs) (λ c. search needs) returns returns-2 returns-3 returns-4)

@@ -10,15 +10,9 @@ returns : tie.Need-returns
 unfolding table
 returns c = no-id-cell (c .before .args .kind) (c .if1 .taken)
 
-mul-result : tie.Need-mul-result
-mul-result c = search needs
-
-array-read-result : tie.Need-array-read-result
-array-read-result c = search needs
-
 returns-2 : tie.Need-returns-2
 unfolding kinds table
 returns-2 c = id-cell-is (c .before .args .kind) (c .if1 .left)
 
 pub id-cell-spec : {M : Type 1} → statement M
-id-cell-spec = tie.close (tie.spec returns mul-result array-read-result returns-2)
+id-cell-spec = tie.close (tie.spec returns (λ c. search needs) (λ c. search needs) returns-2)

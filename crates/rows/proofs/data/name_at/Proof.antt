@@ -16,12 +16,6 @@ mul-from c = let z = few-lines in omega arith
 add-result : tie.Need-add-result
 add-result c = let z = few-lines in omega arith
 
-sub-result : tie.Need-sub-result
-sub-result c = search needs
-
-part-result-start : tie.Need-part-result-start
-part-result-start c = search needs
-
 part-result-end : tie.Need-part-result-end
 part-result-end c = let e = ap length (c .pre .0) ∙ length-names in let i = c .pre .1 in let j = c .pre .2 in omega arith
 
@@ -29,4 +23,4 @@ returns : tie.Need-returns
 returns c = ap (λ (l : Bytes). take (c .before .args .line * WIDTH + c .before .args .len - c .before .args .line * WIDTH) (drop (c .before .args .line * WIDTH) l)) (c .before .pre .0)
 
 pub name-at-spec : {M : Type 1} → statement M
-name-at-spec = tie.close (tie.spec mul-from add-result sub-result part-result-start part-result-end returns)
+name-at-spec = tie.close (tie.spec mul-from add-result (λ c. search needs) (λ c. search needs) part-result-end returns)

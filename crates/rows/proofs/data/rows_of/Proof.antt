@@ -11,21 +11,6 @@ returns : tie.Need-returns
 unfolding table
 returns c = record { all = above (c .before .args .kind) (c .if1 .taken); within = search needs; few = search needs }
 
-mul-from : tie.Need-mul-from
-mul-from c = search needs
-
-array-read-from : tie.Need-array-read-from
-array-read-from c = search needs
-
-add-to : tie.Need-add-to
-add-to c = search needs
-
-mul-to : tie.Need-mul-to
-mul-to c = search needs
-
-array-read-to : tie.Need-array-read-to
-array-read-to c = search needs
-
 sub-t11 : tie.Need-sub-t11
 unfolding startOf kinds table
 sub-t11 c = ordered (c .before .args .kind) (c .if1 .left) .up
@@ -37,4 +22,4 @@ returns-2 c = let o = ordered (c .before .args .kind) (c .if1 .left) in record {
 pub rows-of-spec : {M : Type 1} → statement M
 rows-of-spec =
     tie.close
-    (tie.spec returns mul-from array-read-from add-to mul-to array-read-to sub-t11 returns-2)
+    (tie.spec returns (λ c. search needs) (λ c. search needs) (λ c. search needs) (λ c. search needs) (λ c. search needs) sub-t11 returns-2)

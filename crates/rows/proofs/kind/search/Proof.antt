@@ -47,9 +47,6 @@ add-same : tie.Need-add-same Inv-loop μ-loop
 unfolding table
 add-same c = let h = c .before .loop-test .taken in omega arith
 
-sub-same : tie.Need-sub-same Inv-loop μ-loop
-sub-same c = omega arith
-
 part-same-start : tie.Need-part-same-start Inv-loop μ-loop
 unfolding table
 part-same-start c = let z = kind-in (c .before .before .before .before .before .before .pre .0) (c .before .before .before .before .before .before .pre .1) (c .before .before .loop .k) (c .before .loop-test .taken) in omega arith
@@ -57,9 +54,6 @@ part-same-start c = let z = kind-in (c .before .before .before .before .before .
 part-same-end : tie.Need-part-same-end Inv-loop μ-loop
 unfolding table
 part-same-end c = kind-in (c .before .before .before .before .before .before .pre .0) (c .before .before .before .before .before .before .pre .1) (c .before .before .loop .k) (c .before .loop-test .taken)
-
-same-requires : tie.Need-same-requires Inv-loop μ-loop
-same-requires c κs = tt
 
 returns : tie.Need-returns Inv-loop μ-loop
 unfolding table
@@ -91,10 +85,10 @@ search-spec =
     shared-slice-read-len
     add-k
     add-same
-    sub-same
+    (λ c. omega arith)
     part-same-start
     part-same-end
-    same-requires
+    (λ c κs. tt)
     returns
     loop-less
     loop-again

@@ -4,11 +4,8 @@ use borrow.Author.Needs.{needs}
 use Rattle.shapes.proofs.guid.hex_count.Statement.{statement}
 use Rattle.shapes.proofs.guid.hex_count.Tie as tie
 
-cast-result : tie.Need-cast-result
-cast-result c = search needs
-
 returns : tie.Need-returns
 returns c = one-count _ _ (hex-test _)
 
 pub hex-count-spec : {M : Type 1} → statement M
-hex-count-spec = tie.close (tie.spec cast-result returns)
+hex-count-spec = tie.close (tie.spec (λ c. search needs) returns)

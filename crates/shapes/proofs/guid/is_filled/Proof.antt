@@ -16,20 +16,8 @@ abbrev μ-loop : tie.MeasureT-loop
 loop-holds : tie.Need-loop-holds Inv-loop μ-loop
 loop-holds c = stands-none _
 
-shared-slice-read-may-stand : tie.Need-shared-slice-read-may-stand Inv-loop μ-loop
-shared-slice-read-may-stand c = omega arith
-
-may-stand-requires : tie.Need-may-stand-requires Inv-loop μ-loop
-may-stand-requires c κs = tt
-
 returns : tie.Need-returns Inv-loop μ-loop
 returns c = stands-not _ (c .before .before .before .before .loop .inv) (c .before .before .before .loop-test .taken) (c .before .may-stand .ensures) (not-true _ (c .if1 .taken))
-
-add-i : tie.Need-add-i Inv-loop μ-loop
-add-i c = omega arith
-
-loop-less : tie.Need-loop-less Inv-loop μ-loop
-loop-less c = omega arith
 
 loop-again : tie.Need-loop-again Inv-loop μ-loop
 loop-again c = stands-more _ (c .before .before .before .before .loop .inv) (c .before .before .before .loop-test .taken) (c .before .may-stand .ensures) (not-false _ (c .if1 .left))
@@ -44,10 +32,10 @@ is-filled-spec =
     Inv-loop
     μ-loop
     loop-holds
-    shared-slice-read-may-stand
-    may-stand-requires
+    (λ c. omega arith)
+    (λ c κs. tt)
     returns
-    add-i
-    loop-less
+    (λ c. omega arith)
+    (λ c. omega arith)
     loop-again
     returns-2)

@@ -6,12 +6,6 @@ use borrow.Author.Needs.{needs}
 use Rattle.shapes.proofs.guid.is_placed.Statement.{statement}
 use Rattle.shapes.proofs.guid.is_placed.Tie as tie
 
-has-hyphens-requires : tie.Need-has-hyphens-requires
-has-hyphens-requires c κs = search needs
-
-has-hex-requires : tie.Need-has-hex-requires
-has-hex-requires c κs = search needs
-
 returns : tie.Need-returns
 returns c = λ e. placed-is _ (c .before .before .before .if1 .taken) (c .before .before .has-hyphens .ensures (c .before .if2 .taken)) (c .has-hex .ensures e)
 
@@ -22,4 +16,4 @@ returns-3 : tie.Need-returns-3
 returns-3 c = λ e. never e refl
 
 pub is-placed-spec : {M : Type 1} → statement M
-is-placed-spec = tie.close (tie.spec has-hyphens-requires has-hex-requires returns returns-2 returns-3)
+is-placed-spec = tie.close (tie.spec (λ c κs. search needs) (λ c κs. search needs) returns returns-2 returns-3)

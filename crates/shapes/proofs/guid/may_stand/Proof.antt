@@ -9,9 +9,6 @@ use Rattle.shapes.proofs.GuidLaws.{hyphenAt, hexAt, may-hyphen, may-hex
 use Rattle.shapes.proofs.guid.may_stand.Statement.{statement}
 use Rattle.shapes.proofs.guid.may_stand.Tie as tie
 
-is-hex-requires : tie.Need-is-hex-requires
-is-hex-requires c κs = search needs
-
 returns : tie.Need-returns
 returns c = may-hyphen (c .before .args .n) (c .before .args .b) (keyed hyphenAt true (8 ∷ 13 ∷ 18 ∷ 23 ∷ []) tt (c .before .args .n) (c .match .keys1))
 
@@ -22,4 +19,4 @@ returns-3 : tie.Need-returns-3
 returns-3 c = may-none (c .before .before .args .n) (c .before .before .args .b) (omega arith)
 
 pub may-stand-spec : {M : Type 1} → statement M
-may-stand-spec = tie.close (tie.spec is-hex-requires returns returns-2 returns-3)
+may-stand-spec = tie.close (tie.spec (λ c κs. search needs) returns returns-2 returns-3)

@@ -14,23 +14,8 @@ Inv-loop v from i₀ i = Reaches v from i
 abbrev μ-loop : tie.MeasureT-loop
 μ-loop v from i₀ i = length v - i
 
-loop-holds : tie.Need-loop-holds Inv-loop μ-loop
-loop-holds c = refl
-
-shared-slice-read-is-digit : tie.Need-shared-slice-read-is-digit Inv-loop μ-loop
-shared-slice-read-is-digit c = omega arith
-
-is-digit-requires : tie.Need-is-digit-requires Inv-loop μ-loop
-is-digit-requires c κs = tt
-
 returns : tie.Need-returns Inv-loop μ-loop
 returns c = reach-not _ _ (c .before .before .before .before .loop .inv) (c .before .before .before .loop-test .taken) (sym (c .before .is-digit .ensures) ∙ not-true _ (c .if1 .taken))
-
-add-i : tie.Need-add-i Inv-loop μ-loop
-add-i c = omega arith
-
-loop-less : tie.Need-loop-less Inv-loop μ-loop
-loop-less c = omega arith
 
 loop-again : tie.Need-loop-again Inv-loop μ-loop
 loop-again c = reach-more _ _ (c .before .before .before .before .loop .inv) (c .before .before .before .loop-test .taken) (sym (c .before .is-digit .ensures) ∙ not-false _ (c .if1 .left))
@@ -44,11 +29,11 @@ digits-end-spec =
     (tie.spec
     Inv-loop
     μ-loop
-    loop-holds
-    shared-slice-read-is-digit
-    is-digit-requires
+    (λ c. refl)
+    (λ c. omega arith)
+    (λ c κs. tt)
     returns
-    add-i
-    loop-less
+    (λ c. omega arith)
+    (λ c. omega arith)
     loop-again
     returns-2)

@@ -6,38 +6,20 @@ use Rattle.shapes.proofs.VersionLaws.{no-more, no-point, rest-not, grou
 use Rattle.shapes.proofs.version.is_version.Statement.{statement}
 use Rattle.shapes.proofs.version.is_version.Tie as tie
 
-digits-end-requires : tie.Need-digits-end-requires
-digits-end-requires c κs = search needs
-
 returns : tie.Need-returns
 returns c = no-more _ (c .before .digits-end .ensures) (c .if1 .taken)
-
-shared-slice-read-if2 : tie.Need-shared-slice-read-if2
-shared-slice-read-if2 c = omega arith
 
 returns-2 : tie.Need-returns-2
 returns-2 c = no-point _ (c .before .before .before .digits-end .ensures) (c .before .before .if1 .left) (c .if2 .taken)
 
-add-digits-end : tie.Need-add-digits-end
-add-digits-end c = omega arith
-
-digits-end-requires-2 : tie.Need-digits-end-requires-2
-digits-end-requires-2 c κs = search needs
-
 returns-3 : tie.Need-returns-3
 returns-3 c = rest-not _ (c .before .before .before .before .before .digits-end .ensures) (c .before .before .before .before .if1 .left) (c .before .before .if2 .left) (c .before .digits-end2 .ensures) (c .if3 .taken)
-
-is-group-requires : tie.Need-is-group-requires
-is-group-requires c κs = search needs
 
 sub-is-group : tie.Need-sub-is-group
 sub-is-group c = let z = c .before .before .before .digits-end2 .ensures in omega arith
 
 sub-is-group-2 : tie.Need-sub-is-group-2
 sub-is-group-2 c = let z = c .before .before .before .digits-end2 .ensures in omega arith
-
-is-group-requires-2 : tie.Need-is-group-requires-2
-is-group-requires-2 c κs = search needs
 
 returns-4 : tie.Need-returns-4
 returns-4 c = grouped _ (c .before .before .before .before .before .before .before .before .digits-end .ensures) (c .before .before .before .before .before .before .before .if1 .left) (c .before .before .before .before .before .if2 .left) (c .before .before .before .before .digits-end2 .ensures) (c .before .before .before .if3 .left) (sym (c .before .before .is-group .ensures) ∙ c .before .if4 .taken) (c .is-group2 .ensures)
@@ -49,16 +31,16 @@ pub is-version-spec : {M : Type 1} → statement M
 is-version-spec =
     tie.close
     (tie.spec
-    digits-end-requires
+    (λ c κs. search needs)
     returns
-    shared-slice-read-if2
+    (λ c. omega arith)
     returns-2
-    add-digits-end
-    digits-end-requires-2
+    (λ c. omega arith)
+    (λ c κs. search needs)
     returns-3
-    is-group-requires
+    (λ c κs. search needs)
     sub-is-group
     sub-is-group-2
-    is-group-requires-2
+    (λ c κs. search needs)
     returns-4
     returns-5)

@@ -6,23 +6,8 @@ use borrow.Author.Needs.{needs}
 use Rattle.spells.proofs.characters.character.Statement.{statement}
 use Rattle.spells.proofs.characters.character.Tie as tie
 
-shared-slice-read-b : tie.Need-shared-slice-read-b
-shared-slice-read-b c = search needs
-
-character-requires : tie.Need-character-requires
-character-requires c κs = search needs
-
 returns : tie.Need-returns
 returns c = beyond-ascii _ _ (c .before .before .before .before .pre) (c .before .if1 .taken) (c .character .ensures)
-
-cast-c : tie.Need-cast-c
-cast-c c = search needs
-
-is-char-requires : tie.Need-is-char-requires
-is-char-requires c κs = search needs
-
-add-t9 : tie.Need-add-t9
-add-t9 c = search needs
 
 returns-2 : tie.Need-returns-2
 returns-2 c = in-ascii _ _ (c .before .before .before .before .before .pre) (omega (arith, c .before .before .if1 .left)) (sym (c .before .is-char .ensures) ∙ c .if2 .taken)
@@ -34,11 +19,11 @@ pub character-spec : {M : Type 1} → statement M
 character-spec =
     tie.close
     (tie.spec
-    shared-slice-read-b
-    character-requires
+    (λ c. search needs)
+    (λ c κs. search needs)
     returns
-    cast-c
-    is-char-requires
-    add-t9
+    (λ c. search needs)
+    (λ c κs. search needs)
+    (λ c. search needs)
     returns-2
     returns-3)

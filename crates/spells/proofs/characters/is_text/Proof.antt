@@ -17,14 +17,8 @@ abbrev μ-loop : tie.MeasureT-loop
 loop-holds : tie.Need-loop-holds Inv-loop μ-loop
 loop-holds c = along-start _
 
-ascii-eights-requires : tie.Need-ascii-eights-requires Inv-loop μ-loop
-ascii-eights-requires c κs = omega arith
-
 returns : tie.Need-returns Inv-loop μ-loop
 returns c = along-end (c .before .ascii-eights .ensures .along (c .before .before .before .loop .inv)) (c .if1 .taken)
-
-character-requires : tie.Need-character-requires Inv-loop μ-loop
-character-requires c κs = omega arith
 
 enum-known-p : tie.Need-enum-known-p Inv-loop μ-loop
 enum-known-p c = c .match .keys1
@@ -48,9 +42,9 @@ is-text-spec =
     Inv-loop
     μ-loop
     loop-holds
-    ascii-eights-requires
+    (λ c κs. omega arith)
     returns
-    character-requires
+    (λ c κs. omega arith)
     enum-known-p
     returns-2
     loop-less

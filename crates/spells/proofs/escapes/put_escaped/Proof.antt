@@ -21,9 +21,6 @@ loop-holds : tie.Need-loop-holds Inv-loop μ-loop
 unfolding escape
 loop-holds c = (omega arith, wrote-none _ _)
 
-stay-run-requires : tie.Need-stay-run-requires Inv-loop μ-loop
-stay-run-requires c κs = omega arith
-
 sub-put : tie.Need-sub-put Inv-loop μ-loop
 sub-put c = omega (arith, c .before .stay-run .ensures .from)
 
@@ -42,14 +39,8 @@ same-length c = wrote-run (now (c .before .before .before .before .before .befor
 returns : tie.Need-returns Inv-loop μ-loop
 returns c = wrote-whole (now (c .before .before .before .before .before .before .before .before .before .before .before .args .text)) _ (wrote-run (now (c .before .before .before .before .before .before .before .before .before .before .before .args .text)) (c .before .before .before .before .before .before .before .before .loop .inv .1) (c .before .before .before .before .before .before .stay-run .ensures) (c .before .before .before .put .ensures)) (c .if1 .taken)
 
-shared-slice-read-put-reference : tie.Need-shared-slice-read-put-reference Inv-loop μ-loop
-shared-slice-read-put-reference c = omega arith
-
 put-reference-requires : tie.Need-put-reference-requires Inv-loop μ-loop
 put-reference-requires c κs = let w = wrote-run (now (c .before .before .before .before .before .before .before .before .before .before .before .before .before .args .text)) (c .before .before .before .before .before .before .before .before .before .before .loop .inv .1) (c .before .before .before .before .before .before .before .before .stay-run .ensures) (c .before .before .before .before .before .put .ensures) in omega (arith, escape-fits (now (c .before .before .before .before .before .before .before .before .before .before .before .before .before .args .text)) _ (c .before .before .if1 .left), w .next, c .before .before .before .before .before .before .before .before .before .before .before .before .before .pre)
-
-add-i : tie.Need-add-i Inv-loop μ-loop
-add-i c = omega arith
 
 loop-less : tie.Need-loop-less Inv-loop μ-loop
 loop-less c = omega (arith, c .before .before .before .before .before .before .before .before .before .before .before .stay-run .ensures .from)
@@ -70,16 +61,16 @@ put-escaped-spec =
     Inv-loop
     μ-loop
     loop-holds
-    stay-run-requires
+    (λ c κs. omega arith)
     sub-put
     part-put-start
     part-put-end
     put-requires
     same-length
     returns
-    shared-slice-read-put-reference
+    (λ c. omega arith)
     put-reference-requires
-    add-i
+    (λ c. omega arith)
     loop-less
     loop-again
     same-length-2

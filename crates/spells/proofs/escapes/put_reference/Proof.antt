@@ -5,50 +5,29 @@ use borrow.Author.Needs.{needs}
 use Rattle.spells.proofs.escapes.put_reference.Statement.{statement}
 use Rattle.spells.proofs.escapes.put_reference.Tie as tie
 
-slice-aggregate-put : tie.Need-slice-aggregate-put
-slice-aggregate-put c = search needs
-
 put-requires : tie.Need-put-requires
 unfolding escapeByte
 put-requires c κs = rw (c .before .before .match .keys1) at (c .before .before .before .before .pre)
-
-slice-aggregate-put-2 : tie.Need-slice-aggregate-put-2
-slice-aggregate-put-2 c = search needs
 
 put-requires-2 : tie.Need-put-requires-2
 unfolding escapeByte
 put-requires-2 c κs = rw (c .before .before .match .keys2) at (c .before .before .before .before .pre)
 
-slice-aggregate-put-3 : tie.Need-slice-aggregate-put-3
-slice-aggregate-put-3 c = search needs
-
 put-requires-3 : tie.Need-put-requires-3
 unfolding escapeByte
 put-requires-3 c κs = rw (c .before .before .match .keys3) at (c .before .before .before .before .pre)
-
-slice-aggregate-put-4 : tie.Need-slice-aggregate-put-4
-slice-aggregate-put-4 c = search needs
 
 put-requires-4 : tie.Need-put-requires-4
 unfolding escapeByte
 put-requires-4 c κs = rw (c .before .before .match .keys4) at (c .before .before .before .before .pre)
 
-slice-aggregate-put-5 : tie.Need-slice-aggregate-put-5
-slice-aggregate-put-5 c = search needs
-
 put-requires-5 : tie.Need-put-requires-5
 unfolding escapeByte
 put-requires-5 c κs = rw (c .before .before .match .keys5) at (c .before .before .before .before .pre)
 
-slice-aggregate-put-6 : tie.Need-slice-aggregate-put-6
-slice-aggregate-put-6 c = search needs
-
 put-requires-6 : tie.Need-put-requires-6
 unfolding escapeByte
 put-requires-6 c κs = rw (c .before .before .match .keys6) at (c .before .before .before .before .pre)
-
-slice-aggregate-put-7 : tie.Need-slice-aggregate-put-7
-slice-aggregate-put-7 c = search needs
 
 put-requires-7 : tie.Need-put-requires-7
 unfolding escapeByte
@@ -57,57 +36,33 @@ put-requires-7 c κs = rw (c .before .before .match .keys7) at (c .before .befor
 put-byte-requires : tie.Need-put-byte-requires
 put-byte-requires c κs = rw (unnamed-same _ (c .before .match .rest)) at (c .before .before .before .pre)
 
-same-length : tie.Need-same-length
-same-length c = search needs
-
 returns : tie.Need-returns
 unfolding escapeByte
 returns c = rw (c .before .before .before .before .before .match .keys1) (c .before .before .put .ensures)
-
-same-length-2 : tie.Need-same-length-2
-same-length-2 c = search needs
 
 returns-2 : tie.Need-returns-2
 unfolding escapeByte
 returns-2 c = rw (c .before .before .before .before .before .match .keys2) (c .before .before .put2 .ensures)
 
-same-length-3 : tie.Need-same-length-3
-same-length-3 c = search needs
-
 returns-3 : tie.Need-returns-3
 unfolding escapeByte
 returns-3 c = rw (c .before .before .before .before .before .match .keys3) (c .before .before .put3 .ensures)
-
-same-length-4 : tie.Need-same-length-4
-same-length-4 c = search needs
 
 returns-4 : tie.Need-returns-4
 unfolding escapeByte
 returns-4 c = rw (c .before .before .before .before .before .match .keys4) (c .before .before .put4 .ensures)
 
-same-length-5 : tie.Need-same-length-5
-same-length-5 c = search needs
-
 returns-5 : tie.Need-returns-5
 unfolding escapeByte
 returns-5 c = rw (c .before .before .before .before .before .match .keys5) (c .before .before .put5 .ensures)
-
-same-length-6 : tie.Need-same-length-6
-same-length-6 c = search needs
 
 returns-6 : tie.Need-returns-6
 unfolding escapeByte
 returns-6 c = rw (c .before .before .before .before .before .match .keys6) (c .before .before .put6 .ensures)
 
-same-length-7 : tie.Need-same-length-7
-same-length-7 c = search needs
-
 returns-7 : tie.Need-returns-7
 unfolding escapeByte
 returns-7 c = rw (c .before .before .before .before .before .match .keys7) (c .before .before .put7 .ensures)
-
-same-length-8 : tie.Need-same-length-8
-same-length-8 c = search needs
 
 returns-8 : tie.Need-returns-8
 returns-8 c = rw (unnamed-same _ (c .before .before .before .before .match .rest)) (c .before .before .put-byte .ensures)
@@ -116,34 +71,34 @@ pub put-reference-spec : {M : Type 1} → statement M
 put-reference-spec =
     tie.close
     (tie.spec
-    slice-aggregate-put
+    (λ c. search needs)
     put-requires
-    slice-aggregate-put-2
+    (λ c. search needs)
     put-requires-2
-    slice-aggregate-put-3
+    (λ c. search needs)
     put-requires-3
-    slice-aggregate-put-4
+    (λ c. search needs)
     put-requires-4
-    slice-aggregate-put-5
+    (λ c. search needs)
     put-requires-5
-    slice-aggregate-put-6
+    (λ c. search needs)
     put-requires-6
-    slice-aggregate-put-7
+    (λ c. search needs)
     put-requires-7
     put-byte-requires
-    same-length
+    (λ c. search needs)
     returns
-    same-length-2
+    (λ c. search needs)
     returns-2
-    same-length-3
+    (λ c. search needs)
     returns-3
-    same-length-4
+    (λ c. search needs)
     returns-4
-    same-length-5
+    (λ c. search needs)
     returns-5
-    same-length-6
+    (λ c. search needs)
     returns-6
-    same-length-7
+    (λ c. search needs)
     returns-7
-    same-length-8
+    (λ c. search needs)
     returns-8)

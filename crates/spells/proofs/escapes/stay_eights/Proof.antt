@@ -17,20 +17,8 @@ abbrev μ-loop : tie.MeasureT-loop
 loop-holds : tie.Need-loop-holds Inv-loop μ-loop
 loop-holds c = kept-none _ _ (c .before .pre)
 
-sub-loop : tie.Need-sub-loop Inv-loop μ-loop
-sub-loop c = omega arith
-
-eight-stay-requires : tie.Need-eight-stay-requires Inv-loop μ-loop
-eight-stay-requires c κs = omega arith
-
 returns : tie.Need-returns Inv-loop μ-loop
 returns c = c .before .before .before .loop .inv
-
-add-i : tie.Need-add-i Inv-loop μ-loop
-add-i c = omega arith
-
-loop-less : tie.Need-loop-less Inv-loop μ-loop
-loop-less c = omega arith
 
 loop-again : tie.Need-loop-again Inv-loop μ-loop
 loop-again c = kept-on 8 (c .before .before .before .loop .inv) (omega arith) (c .before .eight-stay .ensures (not-false _ (c .if1 .left)))
@@ -45,10 +33,10 @@ stay-eights-spec =
     Inv-loop
     μ-loop
     loop-holds
-    sub-loop
-    eight-stay-requires
+    (λ c. omega arith)
+    (λ c κs. omega arith)
     returns
-    add-i
-    loop-less
+    (λ c. omega arith)
+    (λ c. omega arith)
     loop-again
     returns-2)

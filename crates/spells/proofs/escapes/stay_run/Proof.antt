@@ -19,20 +19,8 @@ stay-eights-requires c κs = c .before .pre
 loop-holds : tie.Need-loop-holds Inv-loop μ-loop
 loop-holds c = c .stay-eights .ensures
 
-shared-slice-read-stays : tie.Need-shared-slice-read-stays Inv-loop μ-loop
-shared-slice-read-stays c = omega arith
-
-stays-requires : tie.Need-stays-requires Inv-loop μ-loop
-stays-requires c κs = tt
-
 returns : tie.Need-returns Inv-loop μ-loop
 returns c = c .before .before .before .before .loop .inv
-
-add-i : tie.Need-add-i Inv-loop μ-loop
-add-i c = omega arith
-
-loop-less : tie.Need-loop-less Inv-loop μ-loop
-loop-less c = omega arith
 
 loop-again : tie.Need-loop-again Inv-loop μ-loop
 loop-again c = kept-one (c .before .before .before .before .loop .inv) (c .before .before .before .loop-test .taken) (c .before .stays .ensures .1 (omega (arith, c .before .stays .ensures .0, c .if1 .left)))
@@ -48,10 +36,10 @@ stay-run-spec =
     μ-loop
     stay-eights-requires
     loop-holds
-    shared-slice-read-stays
-    stays-requires
+    (λ c. omega arith)
+    (λ c κs. tt)
     returns
-    add-i
-    loop-less
+    (λ c. omega arith)
+    (λ c. omega arith)
     loop-again
     returns-2)

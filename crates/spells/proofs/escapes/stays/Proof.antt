@@ -5,11 +5,8 @@ use borrow.Author.Needs.{needs}
 use Rattle.spells.proofs.escapes.stays.Statement.{statement}
 use Rattle.spells.proofs.escapes.stays.Tie as tie
 
-cast-result : tie.Need-cast-result
-cast-result c = search needs
-
 returns : tie.Need-returns
 returns c = test-number _ _ (test-same _)
 
 pub stays-spec : {M : Type 1} → statement M
-stays-spec = tie.close (tie.spec cast-result returns)
+stays-spec = tie.close (tie.spec (λ c. search needs) returns)

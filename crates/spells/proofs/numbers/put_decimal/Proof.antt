@@ -10,9 +10,6 @@ use Rattle.printing.specs.Writes.{_then_}
 use Rattle.spells.proofs.numbers.put_decimal.Statement.{statement}
 use Rattle.spells.proofs.numbers.put_decimal.Tie as tie
 
-at-most-six-requires : tie.Need-at-most-six-requires
-at-most-six-requires c κs = search needs
-
 put-digits-requires : tie.Need-put-digits-requires
 unfolding printDecimal
 put-digits-requires c κs = omega (arith, rw length-append at (c .before .before .before .pre))
@@ -32,4 +29,4 @@ unfolding printDecimal
 returns c = rw (sym (c .before .before .before .before .before .before .before .before .at-most-six .ensures)) (c .before .before .before .before .before .before .put-digits .ensures then c .before .before .put-part .ensures)
 
 pub put-decimal-spec : {M : Type 1} → statement M
-put-decimal-spec = tie.close (tie.spec at-most-six-requires put-digits-requires put-part-requires same-length returns)
+put-decimal-spec = tie.close (tie.spec (λ c κs. search needs) put-digits-requires put-part-requires same-length returns)

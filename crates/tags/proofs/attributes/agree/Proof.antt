@@ -16,26 +16,11 @@ abbrev μ-loop : tie.MeasureT-loop
 loop-holds : tie.Need-loop-holds Inv-loop μ-loop
 loop-holds c = (omega arith, λ j l. absurd (omega arith))
 
-sub-loop : tie.Need-sub-loop Inv-loop μ-loop
-sub-loop c = omega arith
-
-add-eight-equal : tie.Need-add-eight-equal Inv-loop μ-loop
-add-eight-equal c = omega arith
-
-add-eight-equal-2 : tie.Need-add-eight-equal-2 Inv-loop μ-loop
-add-eight-equal-2 c = omega arith
-
 eight-equal-requires : tie.Need-eight-equal-requires Inv-loop μ-loop
 eight-equal-requires c κs = (omega arith, omega arith)
 
 returns : tie.Need-returns Inv-loop μ-loop
 returns c = c .before .before .before .loop .inv
-
-add-k : tie.Need-add-k Inv-loop μ-loop
-add-k c = omega arith
-
-loop-less : tie.Need-loop-less Inv-loop μ-loop
-loop-less c = omega arith
 
 loop-again : tie.Need-loop-again Inv-loop μ-loop
 loop-again c = (omega arith, agree-more (c .before .before .before .before .before .args .s .now) (c .before .before .before .before .before .args .a) (c .before .before .before .before .before .args .b) _ (c .before .before .before .loop .inv .1) (c .before .eight-equal .ensures (not-false _ (c .if1 .left))))
@@ -50,12 +35,12 @@ agree-spec =
     Inv-loop
     μ-loop
     loop-holds
-    sub-loop
-    add-eight-equal
-    add-eight-equal-2
+    (λ c. omega arith)
+    (λ c. omega arith)
+    (λ c. omega arith)
     eight-equal-requires
     returns
-    add-k
-    loop-less
+    (λ c. omega arith)
+    (λ c. omega arith)
     loop-again
     returns-2)

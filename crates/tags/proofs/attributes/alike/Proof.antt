@@ -17,26 +17,8 @@ loop-holds c = alike-many _ _ _ _ (omega arith) (omega arith) _ (c .agree .ensur
 agree-requires : tie.Need-agree-requires Inv-loop μ-loop
 agree-requires c κs = (omega arith, omega arith)
 
-add-if1 : tie.Need-add-if1 Inv-loop μ-loop
-add-if1 c = omega arith
-
-shared-slice-read-if1 : tie.Need-shared-slice-read-if1 Inv-loop μ-loop
-shared-slice-read-if1 c = omega arith
-
-add-if1-2 : tie.Need-add-if1-2 Inv-loop μ-loop
-add-if1-2 c = omega arith
-
-shared-slice-read-if1-2 : tie.Need-shared-slice-read-if1-2 Inv-loop μ-loop
-shared-slice-read-if1-2 c = omega arith
-
 returns : tie.Need-returns Inv-loop μ-loop
 returns c = alike-miss _ _ _ _ _ (c .before .before .before .before .loop .inv) (omega arith) (omega arith) (c .before .before .before .loop-test .taken) (c .if1 .taken)
-
-add-k : tie.Need-add-k Inv-loop μ-loop
-add-k c = omega arith
-
-loop-less : tie.Need-loop-less Inv-loop μ-loop
-loop-less c = omega arith
 
 loop-again : tie.Need-loop-again Inv-loop μ-loop
 loop-again c = alike-next _ _ _ _ _ (c .before .before .before .before .loop .inv) (omega arith) (omega arith) (c .before .before .before .loop-test .taken) (c .if1 .left)
@@ -52,12 +34,12 @@ alike-spec =
     μ-loop
     agree-requires
     loop-holds
-    add-if1
-    shared-slice-read-if1
-    add-if1-2
-    shared-slice-read-if1-2
+    (λ c. omega arith)
+    (λ c. omega arith)
+    (λ c. omega arith)
+    (λ c. omega arith)
     returns
-    add-k
-    loop-less
+    (λ c. omega arith)
+    (λ c. omega arith)
     loop-again
     returns-2)

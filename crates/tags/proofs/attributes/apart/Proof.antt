@@ -5,11 +5,8 @@ use borrow.Author.Needs.{needs}
 use Rattle.tags.proofs.attributes.apart.Statement.{statement}
 use Rattle.tags.proofs.attributes.apart.Tie as tie
 
-cast-result : tie.Need-cast-result
-cast-result c = search needs
-
 returns : tie.Need-returns
 returns c = test-number _ _ (apart-test _ _)
 
 pub apart-spec : {M : Type 1} → statement M
-apart-spec = tie.close (tie.spec cast-result returns)
+apart-spec = tie.close (tie.spec (λ c. search needs) returns)

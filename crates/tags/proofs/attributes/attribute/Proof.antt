@@ -10,9 +10,6 @@ fresh-requires c κs = c .before .before .pre
 enum-known-r : tie.Need-enum-known-r
 enum-known-r c = c .match .keys1
 
-lost-requires : tie.Need-lost-requires
-lost-requires c κs = tt
-
 returns : tie.Need-returns
 returns c = attribute-name-fails _ _ _ _ _ (c .before .match .keys2) (c .before .before .fresh .ensures) _ (c .lost .ensures)
 
@@ -21,9 +18,6 @@ opened-requires c κs = let z = known-fresh (c .before .r .given .1) (c .before 
 
 enum-known-r-2 : tie.Need-enum-known-r-2
 enum-known-r-2 c = c .match2 .keys1
-
-lost-requires-2 : tie.Need-lost-requires-2
-lost-requires-2 c κs = tt
 
 returns-2 : tie.Need-returns-2
 returns-2 c = attribute-opening-fails _ _ _ _ _ _ (c .before .before .before .before .before .before .fresh .ensures) (c .before .before .before .before .r .given .1) (c .before .match2 .keys2) (c .before .before .opened .ensures) _ (c .lost2 .ensures)
@@ -46,11 +40,11 @@ attribute-spec =
     (tie.spec
     fresh-requires
     enum-known-r
-    lost-requires
+    (λ c κs. tt)
     returns
     opened-requires
     enum-known-r-2
-    lost-requires-2
+    (λ c κs. tt)
     returns-2
     sub-value
     shared-slice-read-value

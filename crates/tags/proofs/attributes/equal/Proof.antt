@@ -5,11 +5,8 @@ use borrow.Author.Needs.{needs}
 use Rattle.tags.proofs.attributes.equal.Statement.{statement}
 use Rattle.tags.proofs.attributes.equal.Tie as tie
 
-cast-result : tie.Need-cast-result
-cast-result c = search needs
-
 returns : tie.Need-returns
 returns c = test-number _ _ (eqb-true _ _)
 
 pub equal-spec : {M : Type 1} → statement M
-equal-spec = tie.close (tie.spec cast-result returns)
+equal-spec = tie.close (tie.spec (λ c. search needs) returns)

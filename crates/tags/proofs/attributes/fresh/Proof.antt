@@ -35,9 +35,6 @@ add-is-name-byte c = let x = c .before .before .before .before .before .before .
 shared-slice-read-is-name-byte : tie.Need-shared-slice-read-is-name-byte
 shared-slice-read-is-name-byte c = let x = c .before .before .before .before .before .before .before .if1 .left in let y = c .before .if4 .left in omega arith
 
-is-name-byte-requires : tie.Need-is-name-byte-requires
-is-name-byte-requires c κs = tt
-
 add-t15 : tie.Need-add-t15
 add-t15 c = let x = c .before .before .before .before .before .before .before .before .before .if1 .left in let y = c .before .before .before .if4 .left in omega arith
 
@@ -64,7 +61,7 @@ fresh-spec =
     returns-4
     add-is-name-byte
     shared-slice-read-is-name-byte
-    is-name-byte-requires
+    (λ c κs. tt)
     add-t15
     returns-5
     add-t11

@@ -12,11 +12,8 @@ returns c = rw (c .if1 .taken)
 returns-2 : tie.Need-returns-2
 returns-2 c = let h : 1 ≤ c .before .before .args .glue = omega (arith, c .before .if1 .left) in let k : 31 < c .before .before .args .n = omega arith in rw (le-leb 1 (c .before .before .args .glue) h, lt-leb (c .before .before .args .n) 31 k)
 
-is-name-start-requires : tie.Need-is-name-start-requires
-is-name-start-requires c κs = search needs
-
 returns-3 : tie.Need-returns-3
 returns-3 c = let h : 1 ≤ c .before .before .before .args .glue = omega (arith, c .before .before .if1 .left) in let k : c .before .before .before .args .n ≤ 31 = omega arith in rw (le-leb 1 (c .before .before .before .args .glue) h, le-leb (c .before .before .before .args .n) 31 k) (c .is-name-start .ensures)
 
 pub goes-on-spec : {M : Type 1} → statement M
-goes-on-spec = tie.close (tie.spec returns returns-2 is-name-start-requires returns-3)
+goes-on-spec = tie.close (tie.spec returns returns-2 (λ c κs. search needs) returns-3)

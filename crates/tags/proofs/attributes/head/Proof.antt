@@ -24,9 +24,6 @@ glue-requires c κs = c .loop .inv .upto
 enum-known-r : tie.Need-enum-known-r Inv-loop μ-loop
 enum-known-r c = c .match .keys1
 
-failed-requires : tie.Need-failed-requires Inv-loop μ-loop
-failed-requires c κs = tt
-
 same-length : tie.Need-same-length Inv-loop μ-loop
 same-length c = c .before .before .before .loop .inv .table-long
 
@@ -38,9 +35,6 @@ shared-slice-read-goes-on c = known-tok (c .before .before .r .given .1) (c .bef
 
 sub-goes-on : tie.Need-sub-goes-on Inv-loop μ-loop
 sub-goes-on c = let g = known-tok (c .before .before .r .given .1) (c .before .before .before .before .glue .ensures) .says .0 in omega arith
-
-goes-on-requires : tie.Need-goes-on-requires Inv-loop μ-loop
-goes-on-requires c κs = tt
 
 tag-end-requires : tie.Need-tag-end-requires Inv-loop μ-loop
 tag-end-requires c κs = known-tok (c .before .before .before .before .r .given .1) (c .before .before .before .before .before .before .glue .ensures) .says .1
@@ -56,9 +50,6 @@ attribute-requires c κs = head-ready _ _ _ _ _ _ _ _ (c .before .before .before
 
 enum-known-r-2 : tie.Need-enum-known-r-2 Inv-loop μ-loop
 enum-known-r-2 c = c .match2 .keys1
-
-failed-requires-2 : tie.Need-failed-requires-2 Inv-loop μ-loop
-failed-requires-2 c κs = tt
 
 same-length-3 : tie.Need-same-length-3 Inv-loop μ-loop
 same-length-3 c = c .before .before .before .before .before .before .before .before .before .before .before .loop .inv .table-long
@@ -102,18 +93,18 @@ head-spec =
     loop-holds
     glue-requires
     enum-known-r
-    failed-requires
+    (λ c κs. tt)
     same-length
     returns
     shared-slice-read-goes-on
     sub-goes-on
-    goes-on-requires
+    (λ c κs. tt)
     tag-end-requires
     same-length-2
     returns-2
     attribute-requires
     enum-known-r-2
-    failed-requires-2
+    (λ c κs. tt)
     same-length-3
     returns-3
     sub-put

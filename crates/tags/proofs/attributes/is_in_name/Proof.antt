@@ -8,11 +8,5 @@ use Rattle.tags.proofs.attributes.is_in_name.Tie as tie
 returns : tie.Need-returns
 returns c = sym (small-test _ (c .if1 .taken))
 
-is-name-byte-requires : tie.Need-is-name-byte-requires
-is-name-byte-requires c κs = search needs
-
-returns-2 : tie.Need-returns-2
-returns-2 c = search needs
-
 pub is-in-name-spec : {M : Type 1} → statement M
-is-in-name-spec = tie.close (tie.spec returns is-name-byte-requires returns-2)
+is-in-name-spec = tie.close (tie.spec returns (λ c κs. search needs) (λ c. search needs))

@@ -13,26 +13,11 @@ Inv-loop s at stop i₀ i = Part s at i × (i ≤ stop)
 abbrev μ-loop : tie.MeasureT-loop
 μ-loop s at stop i₀ i = stop - i
 
-add-i : tie.Need-add-i Inv-loop μ-loop
-add-i c = omega arith
-
 loop-holds : tie.Need-loop-holds Inv-loop μ-loop
 loop-holds c = (part-first _ _ (c .before .pre .0) (c .before .pre .1), c .before .pre .4)
 
-sub-loop : tie.Need-sub-loop Inv-loop μ-loop
-sub-loop c = omega arith
-
-eight-letters-requires : tie.Need-eight-letters-requires Inv-loop μ-loop
-eight-letters-requires c κs = omega arith
-
 returns : tie.Need-returns Inv-loop μ-loop
 returns c = c .before .before .before .loop .inv
-
-add-i-2 : tie.Need-add-i-2 Inv-loop μ-loop
-add-i-2 c = omega arith
-
-loop-less : tie.Need-loop-less Inv-loop μ-loop
-loop-less c = omega arith
 
 loop-again : tie.Need-loop-again Inv-loop μ-loop
 loop-again c = (part-many _ _ 8 _ (c .before .before .before .loop .inv .0) (omega arith) (omega arith) (c .before .eight-letters .ensures (not-false _ (c .if1 .left))), omega arith)
@@ -46,12 +31,12 @@ letter-eights-spec =
     (tie.spec
     Inv-loop
     μ-loop
-    add-i
+    (λ c. omega arith)
     loop-holds
-    sub-loop
-    eight-letters-requires
+    (λ c. omega arith)
+    (λ c κs. omega arith)
     returns
-    add-i-2
-    loop-less
+    (λ c. omega arith)
+    (λ c. omega arith)
     loop-again
     returns-2)

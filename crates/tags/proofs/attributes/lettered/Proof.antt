@@ -5,11 +5,8 @@ use borrow.Author.Needs.{needs}
 use Rattle.tags.proofs.attributes.lettered.Statement.{statement}
 use Rattle.tags.proofs.attributes.lettered.Tie as tie
 
-cast-result : tie.Need-cast-result
-cast-result c = search needs
-
 returns : tie.Need-returns
 returns c = test-number _ _ (letter-test _)
 
 pub lettered-spec : {M : Type 1} → statement M
-lettered-spec = tie.close (tie.spec cast-result returns)
+lettered-spec = tie.close (tie.spec (λ c. search needs) returns)

@@ -5,39 +5,6 @@ use borrow.Author.Needs.{needs}
 use Rattle.tags.proofs.attributes.mark.Statement.{statement}
 use Rattle.tags.proofs.attributes.mark.Tie as tie
 
-sub-n : tie.Need-sub-n
-sub-n c = search needs
-
-sub-worth : tie.Need-sub-worth
-sub-worth c = search needs
-
-shared-slice-read-worth : tie.Need-shared-slice-read-worth
-shared-slice-read-worth c = search needs
-
-worth-requires : tie.Need-worth-requires
-worth-requires c κs = search needs
-
-add-worth : tie.Need-add-worth
-add-worth c = search needs
-
-shared-slice-read-worth-2 : tie.Need-shared-slice-read-worth-2
-shared-slice-read-worth-2 c = search needs
-
-worth-requires-2 : tie.Need-worth-requires-2
-worth-requires-2 c κs = search needs
-
-last-but-one-requires : tie.Need-last-but-one-requires
-last-but-one-requires c κs = search needs
-
-add-worth-2 : tie.Need-add-worth-2
-add-worth-2 c = search needs
-
-shared-slice-read-worth-3 : tie.Need-shared-slice-read-worth-3
-shared-slice-read-worth-3 c = search needs
-
-worth-requires-3 : tie.Need-worth-requires-3
-worth-requires-3 c κs = search needs
-
 mul-result : tie.Need-mul-result
 mul-result c = omega (arith, c .before .before .before .before .before .worth .ensures .1)
 
@@ -63,17 +30,17 @@ pub mark-spec : {M : Type 1} → statement M
 mark-spec =
     tie.close
     (tie.spec
-    sub-n
-    sub-worth
-    shared-slice-read-worth
-    worth-requires
-    add-worth
-    shared-slice-read-worth-2
-    worth-requires-2
-    last-but-one-requires
-    add-worth-2
-    shared-slice-read-worth-3
-    worth-requires-3
+    (λ c. search needs)
+    (λ c. search needs)
+    (λ c. search needs)
+    (λ c κs. search needs)
+    (λ c. search needs)
+    (λ c. search needs)
+    (λ c κs. search needs)
+    (λ c κs. search needs)
+    (λ c. search needs)
+    (λ c. search needs)
+    (λ c κs. search needs)
     mul-result
     add-result
     mul-result-2

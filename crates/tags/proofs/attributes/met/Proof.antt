@@ -4,15 +4,6 @@ use borrow.Author.Needs.{needs}
 use Rattle.tags.proofs.attributes.met.Statement.{statement}
 use Rattle.tags.proofs.attributes.met.Tie as tie
 
-mark-requires : tie.Need-mark-requires
-mark-requires c κs = search needs
-
-element-copy-out-if1 : tie.Need-element-copy-out-if1
-element-copy-out-if1 c = search needs
-
-element-write-marks : tie.Need-element-write-marks
-element-write-marks c = search needs
-
 returns : tie.Need-returns
 returns c = met-new _ _ _ _ _ _ (c .before .before .mark .ensures .1) (c .if1 .taken)
 
@@ -23,4 +14,4 @@ returns-2 : tie.Need-returns-2
 returns-2 c = met-old _ _ _ _ _ _ (c .before .before .before .mark .ensures .1) _ (c .before .if1 .left) (c .again .ensures)
 
 pub met-spec : {M : Type 1} → statement M
-met-spec = tie.close (tie.spec mark-requires element-copy-out-if1 element-write-marks returns again-requires returns-2)
+met-spec = tie.close (tie.spec (λ c κs. search needs) (λ c. search needs) (λ c. search needs) returns again-requires returns-2)

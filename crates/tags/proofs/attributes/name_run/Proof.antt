@@ -14,29 +14,14 @@ Inv-loop s at stop i₀ i = Part s at i
 abbrev μ-loop : tie.MeasureT-loop
 μ-loop s at stop i₀ i = stop - i
 
-name-stop-requires : tie.Need-name-stop-requires Inv-loop μ-loop
-name-stop-requires c κs = omega arith
-
 letter-eights-requires : tie.Need-letter-eights-requires Inv-loop μ-loop
 letter-eights-requires c κs = (omega arith, c .before .before .pre .1, omega arith, omega arith, c .name-stop .ensures .3)
 
 loop-holds : tie.Need-loop-holds Inv-loop μ-loop
 loop-holds c = c .letter-eights .ensures .0
 
-shared-slice-read-is-in-name : tie.Need-shared-slice-read-is-in-name Inv-loop μ-loop
-shared-slice-read-is-in-name c = omega arith
-
-is-in-name-requires : tie.Need-is-in-name-requires Inv-loop μ-loop
-is-in-name-requires c κs = tt
-
 returns : tie.Need-returns Inv-loop μ-loop
 returns c = run-stop _ _ _ (c .before .before .before .before .loop .inv) (sym (c .before .is-in-name .ensures) ∙ not-true _ (c .if1 .taken))
-
-add-i : tie.Need-add-i Inv-loop μ-loop
-add-i c = omega arith
-
-loop-less : tie.Need-loop-less Inv-loop μ-loop
-loop-less c = omega arith
 
 loop-again : tie.Need-loop-again Inv-loop μ-loop
 loop-again c = part-more _ _ _ (c .before .before .before .before .loop .inv) (omega arith) (omega arith) (sym (c .before .is-in-name .ensures) ∙ not-false _ (c .if1 .left))
@@ -50,13 +35,13 @@ name-run-spec =
     (tie.spec
     Inv-loop
     μ-loop
-    name-stop-requires
+    (λ c κs. omega arith)
     letter-eights-requires
     loop-holds
-    shared-slice-read-is-in-name
-    is-in-name-requires
+    (λ c. omega arith)
+    (λ c κs. tt)
     returns
-    add-i
-    loop-less
+    (λ c. omega arith)
+    (λ c. omega arith)
     loop-again
     returns-2)

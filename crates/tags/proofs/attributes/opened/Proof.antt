@@ -7,20 +7,11 @@ use borrow.Author.Needs.{needs}
 use Rattle.tags.proofs.attributes.opened.Statement.{statement}
 use Rattle.tags.proofs.attributes.opened.Tie as tie
 
-glue-requires : tie.Need-glue-requires
-glue-requires c κs = search needs
-
-enum-known-r : tie.Need-enum-known-r
-enum-known-r c = search needs
-
 returns : tie.Need-returns
 returns c = opened-glue-fails _ _ (c .match .keys2) (c .before .glue .ensures)
 
 byte-requires : tie.Need-byte-requires
 byte-requires c κs = let g = known-tok (c .before .r .given .1) (c .before .before .before .glue .ensures) in omega (arith, g .says .1)
-
-enum-known-r-2 : tie.Need-enum-known-r-2
-enum-known-r-2 c = search needs
 
 returns-2 : tie.Need-returns-2
 returns-2 c = opened-equals-fails _ _ _ (known-tok (c .before .before .before .r .given .1) (c .before .before .before .before .before .glue .ensures)) (c .match2 .keys2) (c .before .byte .ensures)
@@ -28,17 +19,11 @@ returns-2 c = opened-equals-fails _ _ _ (known-tok (c .before .before .before .r
 glue-requires-2 : tie.Need-glue-requires-2
 glue-requires-2 c κs = known (c .before .r2 .given .1) (c .before .before .before .byte .ensures) .says .2
 
-enum-known-r-3 : tie.Need-enum-known-r-3
-enum-known-r-3 c = search needs
-
 returns-3 : tie.Need-returns-3
 returns-3 c = opened-second-fails _ _ _ (known-tok (c .before .before .before .before .before .before .before .r .given .1) (c .before .before .before .before .before .before .before .before .before .glue .ensures)) _ (known (c .before .before .before .r2 .given .1) (c .before .before .before .before .before .byte .ensures)) (c .match3 .keys2) (c .before .glue2 .ensures)
 
 shared-slice-read-is-quote : tie.Need-shared-slice-read-is-quote
 shared-slice-read-is-quote c = known-tok (c .before .before .r3 .given .1) (c .before .before .before .before .glue2 .ensures) .says .1
-
-is-quote-requires : tie.Need-is-quote-requires
-is-quote-requires c κs = search needs
 
 add-t12 : tie.Need-add-t12
 add-t12 c = let g = known-tok (c .before .before .before .before .r3 .given .1) (c .before .before .before .before .before .before .glue2 .ensures) .says .1 in omega arith
@@ -53,17 +38,17 @@ pub opened-spec : {M : Type 1} → statement M
 opened-spec =
     tie.close
     (tie.spec
-    glue-requires
-    enum-known-r
+    (λ c κs. search needs)
+    (λ c. search needs)
     returns
     byte-requires
-    enum-known-r-2
+    (λ c. search needs)
     returns-2
     glue-requires-2
-    enum-known-r-3
+    (λ c. search needs)
     returns-3
     shared-slice-read-is-quote
-    is-quote-requires
+    (λ c κs. search needs)
     add-t12
     returns-4
     returns-5)

@@ -11,29 +11,11 @@ use borrow.Author.Needs.{needs}
 use Rattle.tags.proofs.attributes.stands_at.Statement.{statement}
 use Rattle.tags.proofs.attributes.stands_at.Tie as tie
 
-shared-slice-read-if1 : tie.Need-shared-slice-read-if1
-shared-slice-read-if1 c = search needs
-
-shared-slice-read-if1-2 : tie.Need-shared-slice-read-if1-2
-shared-slice-read-if1-2 c = search needs
-
 returns : tie.Need-returns
 returns c = let x = c .before .before .before .before .pre .0 in let y = c .before .before .before .before .pre .2 in first-differs (c .before .before .before .before .args .s .now) (c .before .before .before .before .args .a) (c .before .before .before .before .args .b) (c .before .before .before .before .args .n) (not (nameByte (getD (c .before .before .before .before .args .s .now) (c .before .before .before .before .args .a + c .before .before .before .before .args .n) 0))) (omega arith) (c .before .before .before .before .pre .2) (c .before .before .before .before .pre .1) (c .if1 .taken)
 
-add-is-name-byte : tie.Need-add-is-name-byte
-add-is-name-byte c = search needs
-
-shared-slice-read-is-name-byte : tie.Need-shared-slice-read-is-name-byte
-shared-slice-read-is-name-byte c = search needs
-
-is-name-byte-requires : tie.Need-is-name-byte-requires
-is-name-byte-requires c κs = search needs
-
 returns-2 : tie.Need-returns-2
 returns-2 c = sym (ap (λ (z : Bool). not z && same (take (c .before .before .before .before .before .before .before .args .n) (drop (c .before .before .before .before .before .before .before .args .a) (c .before .before .before .before .before .before .before .args .s .now))) (take (c .before .before .before .before .before .before .before .args .n) (drop (c .before .before .before .before .before .before .before .args .b) (c .before .before .before .before .before .before .before .args .s .now)))) (sym (c .before .is-name-byte .ensures) ∙ c .if2 .taken))
-
-alike-requires : tie.Need-alike-requires
-alike-requires c κs = search needs
 
 returns-3 : tie.Need-returns-3
 returns-3 c = c .alike .ensures ∙ sym (ap (λ (z : Bool). not z && same (take (c .before .before .before .before .before .before .before .before .args .n) (drop (c .before .before .before .before .before .before .before .before .args .a) (c .before .before .before .before .before .before .before .before .args .s .now))) (take (c .before .before .before .before .before .before .before .before .args .n) (drop (c .before .before .before .before .before .before .before .before .args .b) (c .before .before .before .before .before .before .before .before .args .s .now)))) (sym (c .before .before .is-name-byte .ensures) ∙ c .before .if2 .left))
@@ -42,12 +24,12 @@ pub stands-at-spec : {M : Type 1} → statement M
 stands-at-spec =
     tie.close
     (tie.spec
-    shared-slice-read-if1
-    shared-slice-read-if1-2
+    (λ c. search needs)
+    (λ c. search needs)
     returns
-    add-is-name-byte
-    shared-slice-read-is-name-byte
-    is-name-byte-requires
+    (λ c. search needs)
+    (λ c. search needs)
+    (λ c κs. search needs)
     returns-2
-    alike-requires
+    (λ c κs. search needs)
     returns-3)

@@ -6,32 +6,11 @@ use borrow.Author.Needs.{needs}
 use Rattle.tags.proofs.attributes.tag_end.Statement.{statement}
 use Rattle.tags.proofs.attributes.tag_end.Tie as tie
 
-shared-slice-read-if1 : tie.Need-shared-slice-read-if1
-shared-slice-read-if1 c = search needs
-
-add-t11 : tie.Need-add-t11
-add-t11 c = search needs
-
 returns : tie.Need-returns
 returns c = end-bare _ _ _ _ (c .before .before .before .pre) (c .if1 .taken)
 
-failed-requires : tie.Need-failed-requires
-failed-requires c κs = search needs
-
 returns-2 : tie.Need-returns-2
 returns-2 c = end-refused _ _ _ _ (c .before .before .before .before .before .pre) (c .before .before .if1 .left) (not-true _ (c .before .if2 .taken)) _ (c .failed .ensures)
-
-slice-aggregate-literal : tie.Need-slice-aggregate-literal
-slice-aggregate-literal c = search needs
-
-literal-requires : tie.Need-literal-requires
-literal-requires c κs = search needs
-
-enum-known-r : tie.Need-enum-known-r
-enum-known-r c = search needs
-
-failed-requires-2 : tie.Need-failed-requires-2
-failed-requires-2 c κs = search needs
 
 returns-3 : tie.Need-returns-3
 returns-3 c = end-fails _ _ _ _ (c .before .before .before .before .before .before .before .before .pre) (c .before .before .before .before .before .if1 .left) (not-false _ (c .before .before .before .before .if2 .left)) (c .before .match .keys2) (c .before .before .literal .ensures) _ (c .failed2 .ensures)
@@ -43,14 +22,14 @@ pub tag-end-spec : {M : Type 1} → statement M
 tag-end-spec =
     tie.close
     (tie.spec
-    shared-slice-read-if1
-    add-t11
+    (λ c. search needs)
+    (λ c. search needs)
     returns
-    failed-requires
+    (λ c κs. search needs)
     returns-2
-    slice-aggregate-literal
-    literal-requires
-    enum-known-r
-    failed-requires-2
+    (λ c. search needs)
+    (λ c κs. search needs)
+    (λ c. search needs)
+    (λ c κs. search needs)
     returns-3
     returns-4)

@@ -4,15 +4,6 @@ use borrow.Author.Needs.{needs}
 use Rattle.texts.proofs.ask.refusal_of.Statement.{statement}
 use Rattle.texts.proofs.ask.refusal_of.Tie as tie
 
-enum-told : tie.Need-enum-told
-enum-told c = search needs
-
-enum-told-2 : tie.Need-enum-told-2
-enum-told-2 c = search needs
-
-enum-known-at : tie.Need-enum-known-at
-enum-known-at c = search needs
-
 returns : tie.Need-returns
 unfolding refusalOf
 returns c = rw (c .enum-told .given .1)
@@ -27,4 +18,4 @@ returns-3 c = rw (c .before .at .given .1)
 
 pub refusal-of-spec : {M : Type 1} → statement M
 refusal-of-spec =
-    tie.close (tie.spec enum-told enum-told-2 enum-known-at returns returns-2 returns-3)
+    tie.close (tie.spec (λ c. search needs) (λ c. search needs) (λ c. search needs) returns returns-2 returns-3)

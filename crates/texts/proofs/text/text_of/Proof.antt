@@ -6,32 +6,14 @@ use borrow.Author.Needs.{needs}
 use Rattle.texts.proofs.text.text_of.Statement.{statement}
 use Rattle.texts.proofs.text.text_of.Tie as tie
 
-is-quotable-requires : tie.Need-is-quotable-requires
-is-quotable-requires c κs = search needs
-
 returns : tie.Need-returns
 returns c = answer-unquoted _ _ _ (c .before .is-quotable .ensures) (c .if1 .taken)
-
-is-plain-requires : tie.Need-is-plain-requires
-is-plain-requires c κs = search needs
 
 returns-2 : tie.Need-returns-2
 returns-2 c = answer-plain _ _ _ (c .before .before .before .is-quotable .ensures) (c .before .before .if1 .left) refl (c .before .is-plain .ensures) (c .if2 .taken)
 
-text-len-requires : tie.Need-text-len-requires
-text-len-requires c κs = search needs
-
-enum-known-l : tie.Need-enum-known-l
-enum-known-l c = search needs
-
-enum-told : tie.Need-enum-told
-enum-told c = search needs
-
 returns-3 : tie.Need-returns-3
 returns-3 c = answer-not _ _ _ (c .enum-told .given .1) (c .before .before .text-len .ensures)
-
-is-as-read-requires : tie.Need-is-as-read-requires
-is-as-read-requires c κs = search needs
 
 returns-4 : tie.Need-returns-4
 returns-4 c = answer-stands _ _ _ (c .before .before .before .before .before .before .before .before .before .is-quotable .ensures) (c .before .before .before .before .before .before .before .before .if1 .left) (c .before .is-as-read .ensures) (c .if3 .taken) (length-known (c .before .before .before .l .given .1) (c .before .before .before .before .before .text-len .ensures))
@@ -39,14 +21,8 @@ returns-4 c = answer-stands _ _ _ (c .before .before .before .before .before .be
 returns-5 : tie.Need-returns-5
 returns-5 c = answer-short _ _ _ (c .before .before .before .before .before .before .before .before .before .before .is-quotable .ensures) (c .before .before .before .before .before .before .before .before .before .if1 .left) (c .before .before .is-as-read .ensures) (c .before .if3 .left) (length-known (c .before .before .before .before .l .given .1) (c .before .before .before .before .before .before .text-len .ensures)) (c .if4 .taken)
 
-decode-requires : tie.Need-decode-requires
-decode-requires c κs = search needs
-
-same-length : tie.Need-same-length
-same-length c = search needs
-
 returns-6 : tie.Need-returns-6
 returns-6 c = answer-decoded _ _ _ (c .before .before .before .before .before .before .before .before .before .before .before .before .before .before .is-quotable .ensures) (c .before .before .before .before .before .before .before .before .before .before .before .before .before .if1 .left) (c .before .before .before .before .before .before .is-as-read .ensures) (c .before .before .before .before .before .if3 .left) (length-known (c .before .before .before .before .before .before .before .before .l .given .1) (c .before .before .before .before .before .before .before .before .before .before .text-len .ensures)) (c .before .before .before .before .if4 .left) (c .before .before .decode .ensures)
 
 pub text-of-spec : {M : Type 1} → statement M
-text-of-spec = tie.close (tie.spec is-quotable-requires returns is-plain-requires returns-2 text-len-requires enum-known-l enum-told returns-3 is-as-read-requires returns-4 returns-5 decode-requires same-length returns-6)
+text-of-spec = tie.close (tie.spec (λ c κs. search needs) returns (λ c κs. search needs) returns-2 (λ c κs. search needs) (λ c. search needs) (λ c. search needs) returns-3 (λ c κs. search needs) returns-4 returns-5 (λ c κs. search needs) (λ c. search needs) returns-6)

@@ -5,23 +5,11 @@ use borrow.Author.Needs.{needs}
 use Rattle.windows.proofs.output.end_line.Statement.{statement}
 use Rattle.windows.proofs.output.end_line.Tie as tie
 
-counted-requires : tie.Need-counted-requires
-counted-requires c κs = search needs
-
-slice-aggregate-put : tie.Need-slice-aggregate-put
-slice-aggregate-put c = search needs
-
-put-requires : tie.Need-put-requires
-put-requires c κs = search needs
-
 put-column-requires : tie.Need-put-column-requires
 put-column-requires c κs = column-fits _ _ _ (omega (arith, c .before .before .before .before .before .before .counted .ensures)) (omega (arith, c .before .before .before .before .before .before .before .before .pre, c .before .before .before .put .ensures .next))
 
 put-column-requires-2 : tie.Need-put-column-requires-2
 put-column-requires-2 c κs = column-fits _ _ _ (omega arith) (omega (arith, c .before .before .before .before .before .before .before .before .before .before .before .before .pre, c .before .before .before .before .before .before .before .put .ensures .next, column-put (omega (arith, c .before .before .before .before .before .before .before .before .before .before .counted .ensures)) (c .before .before .before .put-column .ensures) .reach))
-
-same-length : tie.Need-same-length
-same-length c = search needs
 
 returns : tie.Need-returns
 returns c = last-put (c .before .before .before .before .before .before .before .before .before .before .before .before .before .before .before .args .base) (c .before .before .before .before .before .before .before .before .before .before .before .before .before .before .before .args .place) (c .before .before .before .before .before .before .before .before .before .before .before .before .before .before .before .pre) (c .before .before .before .before .before .before .before .before .before .before .before .before .before .counted .ensures) (c .before .before .before .before .before .before .before .before .before .before .put .ensures) (column-put (omega (arith, c .before .before .before .before .before .before .before .before .before .before .before .before .before .counted .ensures)) (c .before .before .before .before .before .before .put-column .ensures)) (column-put (omega arith) (c .before .before .put-column2 .ensures))
@@ -30,10 +18,10 @@ pub end-line-spec : {M : Type 1} → statement M
 end-line-spec =
     tie.close
     (tie.spec
-    counted-requires
-    slice-aggregate-put
-    put-requires
+    (λ c κs. search needs)
+    (λ c. search needs)
+    (λ c κs. search needs)
     put-column-requires
     put-column-requires-2
-    same-length
+    (λ c. search needs)
     returns)

@@ -5,12 +5,6 @@ use borrow.Author.Needs.{needs}
 use Rattle.windows.proofs.output.line.Statement.{statement}
 use Rattle.windows.proofs.output.line.Tie as tie
 
-counted-requires : tie.Need-counted-requires
-counted-requires c κs = search needs
-
-counted-requires-2 : tie.Need-counted-requires-2
-counted-requires-2 c κs = search needs
-
 put-column-requires : tie.Need-put-column-requires
 put-column-requires c κs = column-fits _ _ _ (omega (arith, c .before .before .counted .ensures)) (omega arith)
 
@@ -23,9 +17,6 @@ put-column-requires-3 c κs = column-fits _ _ _ (omega arith) (omega (arith, c .
 put-column-requires-4 : tie.Need-put-column-requires-4
 put-column-requires-4 c κs = column-fits _ _ _ (omega arith) (omega (arith, c .before .before .before .before .before .before .before .before .before .before .before .before .before .before .before .before .pre, column-put (omega (arith, c .before .before .before .before .before .before .before .before .before .before .before .before .before .before .counted .ensures)) (c .before .before .before .before .before .before .before .before .before .before .before .put-column .ensures) .reach, column-put (omega (arith, c .before .before .before .before .before .before .before .before .before .before .before .before .before .counted2 .ensures)) (c .before .before .before .before .before .before .before .put-column2 .ensures) .reach, column-put (omega arith) (c .before .before .before .put-column3 .ensures) .reach))
 
-same-length : tie.Need-same-length
-same-length c = search needs
-
 returns : tie.Need-returns
 returns c = line-put (c .before .before .before .before .before .before .before .before .before .before .before .before .before .before .before .before .before .before .before .args .base) (c .before .before .before .before .before .before .before .before .before .before .before .before .before .before .before .before .before .before .before .args .start) (c .before .before .before .before .before .before .before .before .before .before .before .before .before .before .before .before .before .before .before .args .end) (c .before .before .before .before .before .before .before .before .before .before .before .before .before .before .before .before .before .before .before .pre) (c .before .before .before .before .before .before .before .before .before .before .before .before .before .before .before .before .before .counted .ensures) (c .before .before .before .before .before .before .before .before .before .before .before .before .before .before .before .before .counted2 .ensures) (column-put (omega (arith, c .before .before .before .before .before .before .before .before .before .before .before .before .before .before .before .before .before .counted .ensures)) (c .before .before .before .before .before .before .before .before .before .before .before .before .before .before .put-column .ensures)) (column-put (omega (arith, c .before .before .before .before .before .before .before .before .before .before .before .before .before .before .before .before .counted2 .ensures)) (c .before .before .before .before .before .before .before .before .before .before .put-column2 .ensures)) (column-put (omega arith) (c .before .before .before .before .before .before .put-column3 .ensures)) (column-put (omega arith) (c .before .before .put-column4 .ensures))
 
@@ -33,11 +24,11 @@ pub line-spec : {M : Type 1} → statement M
 line-spec =
     tie.close
     (tie.spec
-    counted-requires
-    counted-requires-2
+    (λ c κs. search needs)
+    (λ c κs. search needs)
     put-column-requires
     put-column-requires-2
     put-column-requires-3
     put-column-requires-4
-    same-length
+    (λ c. search needs)
     returns)

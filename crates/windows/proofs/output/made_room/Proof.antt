@@ -7,17 +7,11 @@ use borrow.Author.Needs.{needs}
 use Rattle.windows.proofs.output.made_room.Statement.{statement}
 use Rattle.windows.proofs.output.made_room.Tie as tie
 
-most-requires : tie.Need-most-requires
-most-requires c κs = search needs
-
 returns : tie.Need-returns
 returns c = left-all (c .before .before .before .args .dry) (length (now (c .before .before .before .args .out))) (c .before .before .before .args .at) (c .before .most .ensures) (omega arith) (c .if1 .taken)
-
-emptied-requires : tie.Need-emptied-requires
-emptied-requires c κs = search needs
 
 returns-2 : tie.Need-returns-2
 returns-2 c = left-none (c .before .before .before .before .args .dry) (length (now (c .before .before .before .before .args .out))) (c .before .before .before .before .args .at) (c .before .before .most .ensures) (c .before .if1 .left) (c .emptied .ensures)
 
 pub made-room-spec : {M : Type 1} → statement M
-made-room-spec = tie.close (tie.spec most-requires returns emptied-requires returns-2)
+made-room-spec = tie.close (tie.spec (λ c κs. search needs) returns (λ c κs. search needs) returns-2)

@@ -9,11 +9,8 @@ use Rattle.windows.proofs.output.most.Tie as tie
 returns : tie.Need-returns
 returns c = ap (λ (z : Bool). cond z 0 (c .before .args .size - LINE)) (sym (c .if1 .taken))
 
-sub-result : tie.Need-sub-result
-sub-result c = search needs
-
 returns-2 : tie.Need-returns-2
 returns-2 c = ap (λ (z : Bool). cond z 0 (c .before .args .size - LINE)) (sym (c .if1 .left))
 
 pub most-spec : {M : Type 1} → statement M
-most-spec = tie.close (tie.spec returns sub-result returns-2)
+most-spec = tie.close (tie.spec returns (λ c. search needs) returns-2)

@@ -15,12 +15,9 @@ put-byte-requires : tie.Need-put-byte-requires
 unfolding column
 put-byte-requires c κs = omega (arith, rw length-append at (c .before .before .before .before .before .before .pre), c .before .before .before .put-digits .ensures .next)
 
-same-length : tie.Need-same-length
-same-length c = search needs
-
 returns : tie.Need-returns
 unfolding column
 returns c = c .before .before .before .before .before .before .put-digits .ensures then c .before .before .put-byte .ensures
 
 pub put-column-spec : {M : Type 1} → statement M
-put-column-spec = tie.close (tie.spec put-digits-requires put-byte-requires same-length returns)
+put-column-spec = tie.close (tie.spec put-digits-requires put-byte-requires (λ c. search needs) returns)

@@ -6,50 +6,17 @@ use borrow.Author.Needs.{needs}
 use Rattle.windows.proofs.turn.turn.Statement.{statement}
 use Rattle.windows.proofs.turn.turn.Tie as tie
 
-sub-list-step : tie.Need-sub-list-step
-sub-list-step c = search needs
-
-part-list-step-start : tie.Need-part-list-step-start
-part-list-step-start c = search needs
-
-part-list-step-end : tie.Need-part-list-step-end
-part-list-step-end c = search needs
-
-list-step-requires : tie.Need-list-step-requires
-list-step-requires c κs = search needs
-
-enum-known-listed : tie.Need-enum-known-listed
-enum-known-listed c = search needs
-
-line-requires : tie.Need-line-requires
-line-requires c κs = search needs
-
 dropped-requires : tie.Need-dropped-requires
 dropped-requires c κs = line-held (now (c .before .before .before .before .before .before .before .before .before .before .before .args .buf)) (c .before .before .before .before .before .before .before .before .before .before .before .args .w .at) (c .before .before .before .before .before .before .before .before .before .before .before .args .w .len) (c .before .before .before .before .before .before .before .list-step .ensures) (c .before .before .before .before .before .listed .given .1) (c .before .before .before .before .before .before .before .before .before .before .before .pre .0 .front)
 
-enum-known-listed-2 : tie.Need-enum-known-listed-2
-enum-known-listed-2 c = search needs
-
 dropped-requires-2 : tie.Need-dropped-requires-2
 dropped-requires-2 c κs = drop-held (now (c .before .before .before .before .before .before .before .args .buf)) (c .before .before .before .before .before .before .before .args .w .at) (c .before .before .before .before .before .before .before .args .w .len) (c .before .before .before .list-step .ensures) (c .before .listed2 .given .1) (c .before .before .before .before .before .before .before .pre .0 .front)
-
-enum-known-listed-3 : tie.Need-enum-known-listed-3
-enum-known-listed-3 c = search needs
-
-end-line-requires : tie.Need-end-line-requires
-end-line-requires c κs = search needs
-
-same-length : tie.Need-same-length
-same-length c = search needs
 
 returns : tie.Need-returns
 returns c = turned-line (now (c .before .before .before .before .before .before .before .before .before .before .before .before .args .buf)) (c .before .before .before .before .before .before .before .before .before .before .before .before .args .w) (c .dropped .result) (c .before .before .before .before .before .before .before .before .list-step .ensures) (c .before .before .before .before .before .before .listed .given .1) (c .dropped .ensures) (c .before .before .before .before .before .before .before .before .before .before .before .before .pre .0) (c .before .before .before .line .ensures)
 
 returns-2 : tie.Need-returns-2
 returns-2 c = turned-drop (now (c .before .before .before .before .before .before .before .before .args .buf)) (c .before .before .before .before .before .before .before .before .args .w) (c .dropped2 .result) (now (c .before .before .before .before .before .before .before .before .args .out)) (c .before .before .before .before .before .before .before .before .args .waiting) (c .before .before .before .before .list-step .ensures) (c .before .before .listed2 .given .1) (c .dropped2 .ensures) (c .before .before .before .before .before .before .before .before .pre .0) (omega (arith, c .before .before .before .before .before .before .before .before .pre .1))
-
-same-length-2 : tie.Need-same-length-2
-same-length-2 c = search needs
 
 returns-3 : tie.Need-returns-3
 returns-3 c = turned-end (now (c .before .before .before .before .before .before .before .before .before .before .before .args .buf)) (c .before .before .before .before .before .before .before .before .before .before .before .args .w) (c .before .before .before .before .before .before .before .list-step .ensures) (c .before .before .before .before .before .listed3 .given .1) (c .before .before .before .before .before .before .before .before .before .before .before .pre .0) (c .before .before .end-line .ensures)
@@ -58,19 +25,19 @@ pub turn-spec : {M : Type 1} → statement M
 turn-spec =
     tie.close
     (tie.spec
-    sub-list-step
-    part-list-step-start
-    part-list-step-end
-    list-step-requires
-    enum-known-listed
-    line-requires
+    (λ c. search needs)
+    (λ c. search needs)
+    (λ c. search needs)
+    (λ c κs. search needs)
+    (λ c. search needs)
+    (λ c κs. search needs)
     dropped-requires
-    enum-known-listed-2
+    (λ c. search needs)
     dropped-requires-2
-    enum-known-listed-3
-    end-line-requires
-    same-length
+    (λ c. search needs)
+    (λ c κs. search needs)
+    (λ c. search needs)
     returns
     returns-2
-    same-length-2
+    (λ c. search needs)
     returns-3)

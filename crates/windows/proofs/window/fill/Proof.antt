@@ -20,29 +20,17 @@ loop-holds c = record { long = refl; upto = omega arith; from-on = omega arith; 
 read-behind-requires : tie.Need-read-behind-requires Inv-loop μ-loop
 read-behind-requires c κs = c .before .before .loop .inv .upto
 
-same-length : tie.Need-same-length Inv-loop μ-loop
-same-length c = search needs
-
 returns : tie.Need-returns Inv-loop μ-loop
 returns c = filled-last (c .before .before .before .before .read-behind .result .count) (c .before .before .before .before .read-behind .result .failed) (c .before .before .before .before .before .before .before .loop .inv) (c .before .before .before .before .read-behind .ensures .0) (c .before .before .before .before .read-behind .ensures .1)
 
 add-next : tie.Need-add-next Inv-loop μ-loop
 add-next c = omega (arith, c .before .before .before .before .before .read-behind .ensures .0)
 
-sub-has-end : tie.Need-sub-has-end Inv-loop μ-loop
-sub-has-end c = omega arith
-
 part-has-end-start : tie.Need-part-has-end-start Inv-loop μ-loop
 part-has-end-start c = omega (arith, c .before .before .before .before .before .before .read-behind .ensures .0)
 
 part-has-end-end : tie.Need-part-has-end-end Inv-loop μ-loop
 part-has-end-end c = omega (arith, c .before .before .before .before .before .before .read-behind .ensures .0)
-
-has-end-requires : tie.Need-has-end-requires Inv-loop μ-loop
-has-end-requires c κs = tt
-
-same-length-2 : tie.Need-same-length-2 Inv-loop μ-loop
-same-length-2 c = search needs
 
 returns-2 : tie.Need-returns-2 Inv-loop μ-loop
 returns-2 c = filled-end (c .before .before .before .before .before .before .before .before .before .before .before .before .loop .len) (c .before .before .before .before .before .before .before .before .before .read-behind .result .count) (c .before .before .before .before .before .if1 .left) (reading-on (c .before .before .before .before .before .before .before .before .before .read-behind .result .count) (c .before .before .before .before .before .before .before .before .before .before .before .before .loop .inv) (search needs) (c .before .before .before .before .before .before .before .before .before .read-behind .ensures .0) (c .before .before .before .before .before .before .before .before .before .read-behind .ensures .1)) (c .before .before .before .before .before .before .before .before .before .before .before .before .loop .inv .from-on) (sym (c .if2 .taken) ∙ c .before .has-end .ensures)
@@ -67,14 +55,14 @@ fill-spec =
     μ-loop
     loop-holds
     read-behind-requires
-    same-length
+    (λ c. search needs)
     returns
     add-next
-    sub-has-end
+    (λ c. omega arith)
     part-has-end-start
     part-has-end-end
-    has-end-requires
-    same-length-2
+    (λ c κs. tt)
+    (λ c. search needs)
     returns-2
     loop-less
     loop-again

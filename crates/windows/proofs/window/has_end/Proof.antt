@@ -14,20 +14,8 @@ Inv-loop s k₀ k = hasEnd s ≡ hasEnd (drop k s)
 abbrev μ-loop : tie.MeasureT-loop
 μ-loop s k₀ k = length s - k
 
-loop-holds : tie.Need-loop-holds Inv-loop μ-loop
-loop-holds c = refl
-
-shared-slice-read-if1 : tie.Need-shared-slice-read-if1 Inv-loop μ-loop
-shared-slice-read-if1 c = omega arith
-
 returns : tie.Need-returns Inv-loop μ-loop
 returns c = end-here (c .before .before .before .before .args .s .now) (c .before .before .before .loop .k) (c .before .before .loop-test .taken) (c .if1 .taken) (c .before .before .before .loop .inv)
-
-add-k : tie.Need-add-k Inv-loop μ-loop
-add-k c = omega arith
-
-loop-less : tie.Need-loop-less Inv-loop μ-loop
-loop-less c = omega arith
 
 loop-again : tie.Need-loop-again Inv-loop μ-loop
 loop-again c = end-later (c .before .before .before .before .args .s .now) (c .before .before .before .loop .k) (c .before .before .loop-test .taken) (c .if1 .left) (c .before .before .before .loop .inv)
@@ -36,4 +24,4 @@ returns-2 : tie.Need-returns-2 Inv-loop μ-loop
 returns-2 c = no-end (c .before .before .args .s .now) (c .before .loop .k) (c .loop-test .left) (c .before .loop .inv)
 
 pub has-end-spec : {M : Type 1} → statement M
-has-end-spec = tie.close (tie.spec Inv-loop μ-loop loop-holds shared-slice-read-if1 returns add-k loop-less loop-again returns-2)
+has-end-spec = tie.close (tie.spec Inv-loop μ-loop (λ c. refl) (λ c. omega arith) returns (λ c. omega arith) (λ c. omega arith) loop-again returns-2)

@@ -6,20 +6,11 @@ use Rattle.windows.proofs.WindowLaws.{topped-at-end, topped-already, to
 use Rattle.windows.proofs.window.topped_up.Statement.{statement}
 use Rattle.windows.proofs.window.topped_up.Tie as tie
 
-sub-n : tie.Need-sub-n
-sub-n c = omega arith
-
 returns : tie.Need-returns
 returns c = topped-at-end (c .before .before .before .args .w) (now (c .before .before .before .args .buf)) (c .before .before .before .pre .0) (c .if1 .taken)
 
-move-to-front-requires : tie.Need-move-to-front-requires
-move-to-front-requires c κs = omega arith
-
 fill-requires : tie.Need-fill-requires
 fill-requires c κs = (c .before .before .before .before .before .before .before .before .before .pre .0 .room (c .before .before .before .before .before .if2 .taken), omega arith)
-
-same-length : tie.Need-same-length
-same-length c = search needs
 
 returns-2 : tie.Need-returns-2
 returns-2 c = topped-read (c .before .before .before .before .before .before .before .before .before .before .before .before .args .w) (now (c .before .before .before .before .before .before .before .before .before .before .before .before .args .buf)) (c .before .before .before .before .before .before .move-to-front .last .0) (c .before .before .fill .last .0) (c .before .before .fill .result) (c .before .before .before .before .before .before .before .before .before .if1 .left) (c .before .before .before .before .before .before .before .before .if2 .taken) (c .before .before .before .before .before .before .move-to-front .ensures) (c .before .before .fill .ensures)
@@ -30,4 +21,4 @@ returns-3 c = topped-already (c .before .before .before .before .args .w) (now (
 pub topped-up-spec : {M : Type 1} → statement M
 topped-up-spec =
     tie.close
-    (tie.spec sub-n returns move-to-front-requires fill-requires same-length returns-2 returns-3)
+    (tie.spec (λ c. omega arith) returns (λ c κs. omega arith) fill-requires (λ c. search needs) returns-2 returns-3)

@@ -33,12 +33,6 @@ row-at-requires c κs = ((c .before .before .before .before .pre .0), omega (ari
 mul-cell : tie.Need-mul-cell Inv-loop μ-loop
 mul-cell c = omega (arith, (c .before .before .before .before .before .pre .1), (c .before .before .before .before .before .pre .2), (c .before .loop-test .taken))
 
-cell-requires : tie.Need-cell-requires Inv-loop μ-loop
-cell-requires c κs = search needs
-
-is-child-requires : tie.Need-is-child-requires Inv-loop μ-loop
-is-child-requires c κs = search needs
-
 returns : tie.Need-returns Inv-loop μ-loop
 returns c = sym ((c .before .before .before .before .before .loop .inv .1) ∙ ap nonEmpty (children-step (c .before .before .before .before .before .before .before .before .args .range .from) (c .before .before .before .before .before .before .before .before .args .range .count) (c .before .before .before .before .before .loop .i) (c .before .before .before .before .before .before .before .before .args .cells .now) (c .before .before .before .before .loop-test .taken) (c .before .before .before .row-at .ensures) (c .before .before .cell .ensures) refl) ∙ child-found (c .before .before .before .row-at .result) (c .before .before .cell .result) (cellAt (c .before .before .before .before .before .before .before .before .args .cells .now) (3 * (c .before .before .before .before .before .loop .i) + 1)) (childrenFrom (left (c .before .before .before .before .before .before .before .before .args .range .from) (c .before .before .before .before .before .before .before .before .args .range .count) ((c .before .before .before .before .before .loop .i) + 1)) ((c .before .before .before .before .before .loop .i) + 1) (c .before .before .before .before .before .before .before .before .args .cells .now)) (c .before .is-child .ensures) (c .if1 .taken))
 
@@ -64,8 +58,8 @@ has-child-spec =
     add-row-at
     row-at-requires
     mul-cell
-    cell-requires
-    is-child-requires
+    (λ c κs. search needs)
+    (λ c κs. search needs)
     returns
     add-i
     loop-less

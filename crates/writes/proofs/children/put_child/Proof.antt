@@ -5,9 +5,6 @@ use borrow.Author.Needs.{needs}
 use Rattle.writes.proofs.children.put_child.Statement.{statement}
 use Rattle.writes.proofs.children.put_child.Tie as tie
 
-is-child-requires : tie.Need-is-child-requires
-is-child-requires c κs = search needs
-
 name-at-requires : tie.Need-name-at-requires
 name-at-requires c κs = ((c .before .before .before .before .pre .0), (c .before .before .before .before .pre .1), (c .before .before .before .before .pre .2))
 
@@ -16,9 +13,6 @@ put-start-requires c κs = first-fits (has-room (child-is (c .before .before .be
 
 put-features-requires : tie.Need-put-features-requires
 put-features-requires c κs = ((c .before .before .before .before .before .before .before .before .before .before .pre .0), first-fits (rest-fits (has-room (child-is (c .before .before .before .before .before .before .before .before .before .before .args .row) (c .before .before .before .before .before .before .before .before .before .before .args .t) (c .before .before .before .before .before .before .before .before .before .before .args .a) (c .before .before .before .before .before .before .before .is-child .ensures) (c .before .before .before .before .before .before .if1 .taken) (c .before .before .before .before .before .name-at .ensures)) (c .before .before .before .before .before .before .before .before .before .before .pre .3)) (c .before .before .before .put-start .ensures .next)))
-
-same-length : tie.Need-same-length
-same-length c = search needs
 
 returns : tie.Need-returns
 returns c = all-put (child-is (c .before .before .before .before .before .before .before .before .before .before .before .before .before .args .row) (c .before .before .before .before .before .before .before .before .before .before .before .before .before .args .t) (c .before .before .before .before .before .before .before .before .before .before .before .before .before .args .a) (c .before .before .before .before .before .before .before .before .before .before .is-child .ensures) (c .before .before .before .before .before .before .before .before .before .if1 .taken) (c .before .before .before .before .before .before .before .before .name-at .ensures)) (and-put (c .before .before .before .before .before .before .put-start .ensures) (last-put (c .before .before .put-features .ensures)))
@@ -30,10 +24,10 @@ pub put-child-spec : {M : Type 1} → statement M
 put-child-spec =
     tie.close
     (tie.spec
-    is-child-requires
+    (λ c κs. search needs)
     name-at-requires
     put-start-requires
     put-features-requires
-    same-length
+    (λ c. search needs)
     returns
     returns-2)

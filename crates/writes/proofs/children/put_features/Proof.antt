@@ -17,9 +17,6 @@ add-if1-2 c = omega (arith, bit-small (c .before .before .before .args .bits), b
 put-empty-requires : tie.Need-put-empty-requires
 put-empty-requires c κs = same-fits (c .before .before .before .before .before .args .at) (text "/>") (features-none (c .before .before .before .before .before .args .name .now) (c .before .before .before .before .before .args .bits) (c .before .if1 .taken)) (c .before .before .before .before .before .pre .1)
 
-same-length : tie.Need-same-length
-same-length c = search needs
-
 returns : tie.Need-returns
 returns c = same-put (features-none (c .before .before .before .before .before .before .before .before .args .name .now) (c .before .before .before .before .before .before .before .before .args .bits) (c .before .before .before .before .if1 .taken)) (c .before .before .put-empty .ensures)
 
@@ -38,9 +35,6 @@ put-flag-requires-3 c κs = ((c .before .before .before .before .before .before 
 put-end-requires : tie.Need-put-end-requires
 put-end-requires c κs = first-fits (rest-fits (rest-fits (rest-fits (rest-fits (has-room (features-are (c .before .before .before .before .before .before .before .before .before .before .before .before .before .before .before .before .before .before .before .before .before .args .name .now) (c .before .before .before .before .before .before .before .before .before .before .before .before .before .before .before .before .before .before .before .before .before .args .bits) (c .before .before .before .before .before .before .before .before .before .before .before .before .before .before .before .before .before .if1 .left)) (c .before .before .before .before .before .before .before .before .before .before .before .before .before .before .before .before .before .before .before .before .before .pre .1)) (c .before .before .before .before .before .before .before .before .before .before .before .before .before .before .before .put-byte .ensures .next)) (c .before .before .before .before .before .before .before .before .before .before .before .put-flag .ensures .next)) (c .before .before .before .before .before .before .before .put-flag2 .ensures .next)) (c .before .before .before .put-flag3 .ensures .next))
 
-same-length-2 : tie.Need-same-length-2
-same-length-2 c = search needs
-
 returns-2 : tie.Need-returns-2
 returns-2 c = all-put (features-are (c .before .before .before .before .before .before .before .before .before .before .before .before .before .before .before .before .before .before .before .before .before .before .before .before .args .name .now) (c .before .before .before .before .before .before .before .before .before .before .before .before .before .before .before .before .before .before .before .before .before .before .before .before .args .bits) (c .before .before .before .before .before .before .before .before .before .before .before .before .before .before .before .before .before .before .before .before .if1 .left)) (and-put (c .before .before .before .before .before .before .before .before .before .before .before .before .before .before .before .before .before .before .put-byte .ensures) (and-put (c .before .before .before .before .before .before .before .before .before .before .before .before .before .before .put-flag .ensures) (and-put (c .before .before .before .before .before .before .before .before .before .before .put-flag2 .ensures) (and-put (c .before .before .before .before .before .before .put-flag3 .ensures) (last-put (c .before .before .put-end .ensures))))))
 
@@ -51,12 +45,12 @@ put-features-spec =
     add-if1
     add-if1-2
     put-empty-requires
-    same-length
+    (λ c. search needs)
     returns
     put-byte-requires
     put-flag-requires
     put-flag-requires-2
     put-flag-requires-3
     put-end-requires
-    same-length-2
+    (λ c. search needs)
     returns-2)

@@ -18,9 +18,6 @@ put-start-requires c κs = first-fits (has-room (flag-is (c .before .before .bef
 put-empty-requires : tie.Need-put-empty-requires
 put-empty-requires c κs = first-fits (rest-fits (has-room (flag-is (c .before .before .before .before .before .before .before .before .before .args .there) (c .before .before .before .before .before .before .if1 .left) (c .before .before .before .before .before .name-at .ensures)) (c .before .before .before .before .before .before .before .before .before .pre .3)) (c .before .before .before .put-start .ensures .next))
 
-same-length : tie.Need-same-length
-same-length c = search needs
-
 returns-2 : tie.Need-returns-2
 returns-2 c = all-put (flag-is (c .before .before .before .before .before .before .before .before .before .before .before .before .args .there) (c .before .before .before .before .before .before .before .before .before .if1 .left) (c .before .before .before .before .before .before .before .before .name-at .ensures)) (and-put (c .before .before .before .before .before .before .put-start .ensures) (last-put (c .before .before .put-empty .ensures)))
 
@@ -32,5 +29,5 @@ put-flag-spec =
     name-at-requires
     put-start-requires
     put-empty-requires
-    same-length
+    (λ c. search needs)
     returns-2)

@@ -21,17 +21,11 @@ put-children-requires c κs = ((c .before .before .before .before .before .befor
 put-end-requires : tie.Need-put-end-requires
 put-end-requires c κs = first-fits (rest-fits (rest-fits (has-room (closed-some (c .before .before .before .before .before .before .before .before .before .before .before .before .before .before .before .before .args .name .now) (childrenFrom (rowsFrom (c .before .before .before .before .before .before .before .before .before .before .before .before .before .before .before .before .args .range .from) (c .before .before .before .before .before .before .before .before .before .before .before .before .before .before .before .before .args .range .count)) 0 (c .before .before .before .before .before .before .before .before .before .before .before .before .before .before .before .before .args .cells .now)) (sym (c .before .before .before .before .before .before .before .before .before .before .has-child .ensures) ∙ (c .before .before .before .before .before .before .before .before .before .if1 .taken))) (c .before .before .before .before .before .before .before .before .before .before .before .before .before .before .before .before .pre .4)) (c .before .before .before .before .before .before .before .put-byte .ensures .next)) (c .before .before .before .put-children .ensures .next))
 
-same-length : tie.Need-same-length
-same-length c = search needs
-
 returns : tie.Need-returns
 returns c = all-put (closed-some (c .before .before .before .before .before .before .before .before .before .before .before .before .before .before .before .before .before .before .before .args .name .now) (childrenFrom (rowsFrom (c .before .before .before .before .before .before .before .before .before .before .before .before .before .before .before .before .before .before .before .args .range .from) (c .before .before .before .before .before .before .before .before .before .before .before .before .before .before .before .before .before .before .before .args .range .count)) 0 (c .before .before .before .before .before .before .before .before .before .before .before .before .before .before .before .before .before .before .before .args .cells .now)) (sym (c .before .before .before .before .before .before .before .before .before .before .before .before .before .has-child .ensures) ∙ (c .before .before .before .before .before .before .before .before .before .before .before .before .if1 .taken))) (and-put (c .before .before .before .before .before .before .before .before .before .before .put-byte .ensures) (and-put (c .before .before .before .before .before .before .put-children .ensures) (last-put (c .before .before .put-end .ensures))))
 
 put-empty-requires : tie.Need-put-empty-requires
 put-empty-requires c κs = same-fits (c .before .before .before .before .before .before .before .before .args .at) (text "/>") (closed-none (c .before .before .before .before .before .before .before .before .args .name .now) (childrenFrom (rowsFrom (c .before .before .before .before .before .before .before .before .args .range .from) (c .before .before .before .before .before .before .before .before .args .range .count)) 0 (c .before .before .before .before .before .before .before .before .args .cells .now)) (sym (c .before .before .has-child .ensures) ∙ (c .before .if1 .left))) (c .before .before .before .before .before .before .before .before .pre .4)
-
-same-length-2 : tie.Need-same-length-2
-same-length-2 c = search needs
 
 returns-2 : tie.Need-returns-2
 returns-2 c = same-put (closed-none (c .before .before .before .before .before .before .before .before .before .before .before .args .name .now) (childrenFrom (rowsFrom (c .before .before .before .before .before .before .before .before .before .before .before .args .range .from) (c .before .before .before .before .before .before .before .before .before .before .before .args .range .count)) 0 (c .before .before .before .before .before .before .before .before .before .before .before .args .cells .now)) (sym (c .before .before .before .before .before .has-child .ensures) ∙ (c .before .before .before .before .if1 .left))) (c .before .before .put-empty .ensures)
@@ -44,8 +38,8 @@ put-inside-spec =
     put-byte-requires
     put-children-requires
     put-end-requires
-    same-length
+    (λ c. search needs)
     returns
     put-empty-requires
-    same-length-2
+    (λ c. search needs)
     returns-2)

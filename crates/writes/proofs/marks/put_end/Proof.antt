@@ -5,9 +5,6 @@ use borrow.Author.Needs.{needs}
 use Rattle.writes.proofs.marks.put_end.Statement.{statement}
 use Rattle.writes.proofs.marks.put_end.Tie as tie
 
-slice-aggregate-put : tie.Need-slice-aggregate-put
-slice-aggregate-put c = search needs
-
 put-requires : tie.Need-put-requires
 put-requires c κs = first-fits (has-room (end-is (c .before .before .before .before .args .name .now)) (c .before .before .before .before .pre))
 
@@ -17,9 +14,6 @@ put-requires-2 c κs = first-fits (rest-fits (has-room (end-is (c .before .befor
 put-byte-requires : tie.Need-put-byte-requires
 put-byte-requires c κs = first-fits (rest-fits (rest-fits (has-room (end-is (c .before .before .before .before .before .before .before .before .before .before .before .before .args .name .now)) (c .before .before .before .before .before .before .before .before .before .before .before .before .pre)) (c .before .before .before .before .before .before .before .put .ensures .next)) (c .before .before .before .put2 .ensures .next))
 
-same-length : tie.Need-same-length
-same-length c = search needs
-
 returns : tie.Need-returns
 returns c = all-put (end-is (c .before .before .before .before .before .before .before .before .before .before .before .before .before .before .before .args .name .now)) (and-put (c .before .before .before .before .before .before .before .before .before .before .put .ensures) (and-put (c .before .before .before .before .before .before .put2 .ensures) (last-put (c .before .before .put-byte .ensures))))
 
@@ -27,9 +21,9 @@ pub put-end-spec : {M : Type 1} → statement M
 put-end-spec =
     tie.close
     (tie.spec
-    slice-aggregate-put
+    (λ c. search needs)
     put-requires
     put-requires-2
     put-byte-requires
-    same-length
+    (λ c. search needs)
     returns)

@@ -11,11 +11,8 @@ put-byte-requires c κs = omega (arith, c .before .before .pre)
 put-byte-requires-2 : tie.Need-put-byte-requires-2
 put-byte-requires-2 c κs = omega (arith, c .before .before .before .before .before .before .pre, c .before .before .before .put-byte .ensures .next)
 
-same-length : tie.Need-same-length
-same-length c = search needs
-
 returns : tie.Need-returns
 returns c = c .before .before .before .before .before .before .put-byte .ensures then c .before .before .put-byte2 .ensures
 
 pub put-given-spec : {M : Type 1} → statement M
-put-given-spec = tie.close (tie.spec put-byte-requires put-byte-requires-2 same-length returns)
+put-given-spec = tie.close (tie.spec put-byte-requires put-byte-requires-2 (λ c. search needs) returns)

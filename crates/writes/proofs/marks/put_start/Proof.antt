@@ -11,9 +11,6 @@ put-byte-requires c κs = first-fits (has-room (start-is (c .before .before .bef
 put-requires : tie.Need-put-requires
 put-requires c κs = first-fits (rest-fits (has-room (start-is (c .before .before .before .before .before .before .before .args .name .now)) (c .before .before .before .before .before .before .before .pre)) (c .before .before .before .put-byte .ensures .next))
 
-same-length : tie.Need-same-length
-same-length c = search needs
-
 returns : tie.Need-returns
 returns c = all-put (start-is (c .before .before .before .before .before .before .before .before .before .before .args .name .now)) (and-put (c .before .before .before .before .before .before .put-byte .ensures) (last-put (c .before .before .put .ensures)))
 
@@ -23,5 +20,5 @@ put-start-spec =
     (tie.spec
     put-byte-requires
     put-requires
-    same-length
+    (λ c. search needs)
     returns)

@@ -14,20 +14,11 @@ sub-from c = kind-low (c .pre .0) (c .pre .1) (c .args .kind) (c .pre .2)
 mul-from : tie.Need-mul-from
 mul-from c = omega (arith, kind-high (c .pre .0) (c .pre .1) (c .args .kind) (c .pre .2))
 
-mul-len : tie.Need-mul-len
-mul-len c = search needs
-
 shared-slice-read-len : tie.Need-shared-slice-read-len
 shared-slice-read-len c = let l = ap length (c .before .pre .1) ∙ length-kinds in omega (arith, kind-high (c .before .pre .0) (c .before .pre .1) (c .before .args .kind) (c .before .pre .2))
 
 add-result : tie.Need-add-result
 add-result c = let z = name-in (c .before .pre .0) (c .before .pre .1) (c .before .args .kind) (c .before .pre .2) in omega arith
-
-sub-result : tie.Need-sub-result
-sub-result c = search needs
-
-part-result-start : tie.Need-part-result-start
-part-result-start c = search needs
 
 part-result-end : tie.Need-part-result-end
 part-result-end c = name-in (c .before .pre .0) (c .before .pre .1) (c .before .args .kind) (c .before .pre .2)
@@ -41,10 +32,10 @@ kind-name-spec =
     (tie.spec
     sub-from
     mul-from
-    mul-len
+    (λ c. search needs)
     shared-slice-read-len
     add-result
-    sub-result
-    part-result-start
+    (λ c. search needs)
+    (λ c. search needs)
     part-result-end
     returns)

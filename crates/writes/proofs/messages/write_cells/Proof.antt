@@ -15,9 +15,6 @@ use Rattle.writes.proofs.messages.kind_name.Reads as kind-name-reads
 use Rattle.writes.proofs.messages.put_message.Reads as put-message-reads
 use Rattle.writes.proofs.refusing.refusal_of_rows.Reads as refusal-of-rows-reads
 
-slice-aggregate-refusal-of-rows : tie.Need-slice-aggregate-refusal-of-rows
-slice-aggregate-refusal-of-rows c = search needs
-
 refusal-of-rows-requires : tie.Need-refusal-of-rows-requires
 unfolding numbers table
 refusal-of-rows-requires c κs = refl
@@ -33,41 +30,17 @@ returns-3 : tie.Need-returns-3
 unfolding table
 returns-3 c = no-kind (c .before .before .before .before .before .before .before .before .before .args .kind) (c .before .before .before .before .before .before .before .before .before .args .cells .now) (c .before .before .before .before .before .before .before .before .before .args .id .now) (c .before .before .before .before .before .before .before .before .before .args .texts .now) (c .before .before .before .before .before .before .before .before .before .args .out .now) (c .before .before .before .refusal-of-rows .ensures) (c .before .before .if1 .left) (kinds-are (c .before .before .before .before .before .before .before .before .before .args .kind) ∙ high 1 KINDS (c .before .before .before .before .before .before .before .before .before .args .kind) (c .before .if2 .left) (c .if3 .taken))
 
-slice-aggregate-kind-name : tie.Need-slice-aggregate-kind-name
-slice-aggregate-kind-name c = search needs
-
-slice-aggregate-kind-name-2 : tie.Need-slice-aggregate-kind-name-2
-slice-aggregate-kind-name-2 c = search needs
-
 kind-name-requires : tie.Need-kind-name-requires
 unfolding kindNames kinds table
 kind-name-requires c κs = (refl, refl, kinds-are (c .before .before .before .before .before .before .before .before .before .before .before .args .kind) ∙ right 1 KINDS (c .before .before .before .before .before .before .before .before .before .before .before .args .kind) (c .before .before .before .if2 .left) (c .before .before .if3 .left))
-
-slice-aggregate-put-message : tie.Need-slice-aggregate-put-message
-slice-aggregate-put-message c = search needs
-
-slice-aggregate-put-message-2 : tie.Need-slice-aggregate-put-message-2
-slice-aggregate-put-message-2 c = search needs
 
 put-message-requires : tie.Need-put-message-requires
 unfolding names numbers table
 put-message-requires c κs = (c .before .before .before .before .kind-name .ensures, refl, refl, countable (c .before .before .before .before .before .before .before .before .before .before .before .before .before .before .before .before .args .kind) (c .before .before .before .before .before .before .before .before .before .before .before .before .before .before .before .before .args .cells .now) (c .before .before .before .before .before .before .before .before .before .before .before .before .before .before .before .before .args .id .now) (c .before .before .before .before .before .before .before .before .before .before .before .before .before .before .before .before .args .texts .now) (c .before .before .before .before .before .before .before .before .before .before .refusal-of-rows .ensures) (c .before .before .before .before .before .before .before .before .before .if1 .left) (kinds-are (c .before .before .before .before .before .before .before .before .before .before .before .before .before .before .before .before .args .kind) ∙ right 1 KINDS (c .before .before .before .before .before .before .before .before .before .before .before .before .before .before .before .before .args .kind) (c .before .before .before .before .before .before .before .before .if2 .left) (c .before .before .before .before .before .before .before .if3 .left)))
 
-same-length : tie.Need-same-length
-same-length c = search needs
-
 returns-4 : tie.Need-returns-4
 unfolding table
 returns-4 c = is-written (c .before .before .before .before .before .before .before .before .before .before .before .before .before .before .before .before .before .before .before .args .kind) (c .before .before .before .before .before .before .before .before .before .before .before .before .before .before .before .before .before .before .before .args .cells .now) (c .before .before .before .before .before .before .before .before .before .before .before .before .before .before .before .before .before .before .before .args .id .now) (c .before .before .before .before .before .before .before .before .before .before .before .before .before .before .before .before .before .before .before .args .texts .now) (c .before .before .before .before .before .before .before .before .before .before .before .before .before .before .before .before .before .before .before .args .out .now) (c .before .before .before .before .before .before .before .before .before .before .before .before .before .refusal-of-rows .ensures) (c .before .before .before .before .before .before .before .before .before .before .before .before .if1 .left) (kinds-are (c .before .before .before .before .before .before .before .before .before .before .before .before .before .before .before .before .before .before .before .args .kind) ∙ right 1 KINDS (c .before .before .before .before .before .before .before .before .before .before .before .before .before .before .before .before .before .before .before .args .kind) (c .before .before .before .before .before .before .before .before .before .before .before .if2 .left) (c .before .before .before .before .before .before .before .before .before .before .if3 .left)) (let x = small (c .before .before .before .before .before .before .before .before .before .before .before .before .before .before .before .before .before .before .before .args .kind) (c .before .before .before .before .before .before .before .before .before .before .before .before .before .before .before .before .before .before .before .args .cells .now) (c .before .before .before .before .before .before .before .before .before .before .before .before .before .before .before .before .before .before .before .args .id .now) (c .before .before .before .before .before .before .before .before .before .before .before .before .before .before .before .before .before .before .before .args .texts .now) (c .before .before .before .before .before .before .before .before .before .before .before .before .before .refusal-of-rows .ensures) (c .before .before .before .before .before .before .before .before .before .before .before .before .if1 .left) (kinds-are (c .before .before .before .before .before .before .before .before .before .before .before .before .before .before .before .before .before .before .before .args .kind) ∙ right 1 KINDS (c .before .before .before .before .before .before .before .before .before .before .before .before .before .before .before .before .before .before .before .args .kind) (c .before .before .before .before .before .before .before .before .before .before .before .if2 .left) (c .before .before .before .before .before .before .before .before .before .before .if3 .left)) in omega (arith, (c .before .before .before .before .before .before .if4 .taken))) (c .before .before .put-message .ensures)
-
-slice-aggregate-put-message-3 : tie.Need-slice-aggregate-put-message-3
-slice-aggregate-put-message-3 c = search needs
-
-slice-aggregate-put-message-4 : tie.Need-slice-aggregate-put-message-4
-slice-aggregate-put-message-4 c = search needs
-
-slice-aggregate-put-message-5 : tie.Need-slice-aggregate-put-message-5
-slice-aggregate-put-message-5 c = search needs
 
 put-message-requires-2 : tie.Need-put-message-requires-2
 unfolding names numbers table
@@ -77,18 +50,9 @@ returns-5 : tie.Need-returns-5
 unfolding table
 returns-5 c = no-room (c .before .before .before .before .before .before .before .before .before .before .before .before .before .before .before .before .before .before .before .args .kind) (c .before .before .before .before .before .before .before .before .before .before .before .before .before .before .before .before .before .before .before .args .cells .now) (c .before .before .before .before .before .before .before .before .before .before .before .before .before .before .before .before .before .before .before .args .id .now) (c .before .before .before .before .before .before .before .before .before .before .before .before .before .before .before .before .before .before .before .args .texts .now) (c .before .before .before .before .before .before .before .before .before .before .before .before .before .before .before .before .before .before .before .args .out .now) (c .before .before .before .before .before .before .before .before .before .before .before .before .before .refusal-of-rows .ensures) (c .before .before .before .before .before .before .before .before .before .before .before .before .if1 .left) (kinds-are (c .before .before .before .before .before .before .before .before .before .before .before .before .before .before .before .before .before .before .before .args .kind) ∙ right 1 KINDS (c .before .before .before .before .before .before .before .before .before .before .before .before .before .before .before .before .before .before .before .args .kind) (c .before .before .before .before .before .before .before .before .before .before .before .if2 .left) (c .before .before .before .before .before .before .before .before .before .before .if3 .left)) (c .before .before .put-message2 .ensures .next) (c .if5 .taken)
 
-slice-aggregate-put-message-6 : tie.Need-slice-aggregate-put-message-6
-slice-aggregate-put-message-6 c = search needs
-
-slice-aggregate-put-message-7 : tie.Need-slice-aggregate-put-message-7
-slice-aggregate-put-message-7 c = search needs
-
 put-message-requires-3 : tie.Need-put-message-requires-3
 unfolding names numbers table
 put-message-requires-3 c κs = (c .before .before .before .before .before .before .before .before .before .before .kind-name .ensures, refl, refl, countable (c .before .before .before .before .before .before .before .before .before .before .before .before .before .before .before .before .before .before .before .before .before .before .args .kind) (c .before .before .before .before .before .before .before .before .before .before .before .before .before .before .before .before .before .before .before .before .before .before .args .cells .now) (c .before .before .before .before .before .before .before .before .before .before .before .before .before .before .before .before .before .before .before .before .before .before .args .id .now) (c .before .before .before .before .before .before .before .before .before .before .before .before .before .before .before .before .before .before .before .before .before .before .args .texts .now) (c .before .before .before .before .before .before .before .before .before .before .before .before .before .before .before .before .refusal-of-rows .ensures) (c .before .before .before .before .before .before .before .before .before .before .before .before .before .before .before .if1 .left) (kinds-are (c .before .before .before .before .before .before .before .before .before .before .before .before .before .before .before .before .before .before .before .before .before .before .args .kind) ∙ right 1 KINDS (c .before .before .before .before .before .before .before .before .before .before .before .before .before .before .before .before .before .before .before .before .before .before .args .kind) (c .before .before .before .before .before .before .before .before .before .before .before .before .before .before .if2 .left) (c .before .before .before .before .before .before .before .before .before .before .before .before .before .if3 .left)))
-
-same-length-2 : tie.Need-same-length-2
-same-length-2 c = search needs
 
 returns-6 : tie.Need-returns-6
 unfolding table
@@ -98,26 +62,26 @@ pub write-cells-spec : {M : Type 1} → statement M
 write-cells-spec =
     tie.close
     (tie.spec
-    slice-aggregate-refusal-of-rows
+    (λ c. search needs)
     refusal-of-rows-requires
     returns
     returns-2
     returns-3
-    slice-aggregate-kind-name
-    slice-aggregate-kind-name-2
+    (λ c. search needs)
+    (λ c. search needs)
     kind-name-requires
-    slice-aggregate-put-message
-    slice-aggregate-put-message-2
+    (λ c. search needs)
+    (λ c. search needs)
     put-message-requires
-    same-length
+    (λ c. search needs)
     returns-4
-    slice-aggregate-put-message-3
-    slice-aggregate-put-message-4
-    slice-aggregate-put-message-5
+    (λ c. search needs)
+    (λ c. search needs)
+    (λ c. search needs)
     put-message-requires-2
     returns-5
-    slice-aggregate-put-message-6
-    slice-aggregate-put-message-7
+    (λ c. search needs)
+    (λ c. search needs)
     put-message-requires-3
-    same-length-2
+    (λ c. search needs)
     returns-6)

@@ -10,17 +10,11 @@ use Rattle.writes.proofs.putting.put_value.Tie as tie
 put-digits-requires : tie.Need-put-digits-requires
 put-digits-requires c κs = same-fits (c .before .before .before .before .before .args .at) (printInt (c .before .before .before .before .before .args .a)) (value-int (c .before .before .before .before .before .args .row) (c .before .before .before .before .before .args .a) (c .before .before .before .before .before .args .b) (c .before .before .before .before .before .args .id .now) (c .before .before .before .before .before .args .texts .now) (c .before .if1 .taken)) (c .before .before .before .before .before .pre .1)
 
-same-length : tie.Need-same-length
-same-length c = search needs
-
 returns : tie.Need-returns
 returns c = same-put (value-int (c .before .before .before .before .before .before .before .before .args .row) (c .before .before .before .before .before .before .before .before .args .a) (c .before .before .before .before .before .before .before .before .args .b) (c .before .before .before .before .before .before .before .before .args .id .now) (c .before .before .before .before .before .before .before .before .args .texts .now) (c .before .before .before .before .if1 .taken)) (c .before .before .put-digits .ensures)
 
 put-decimal-requires : tie.Need-put-decimal-requires
 put-decimal-requires c κs = same-fits (c .before .before .before .before .before .before .args .at) (printDecimal (c .before .before .before .before .before .before .args .a) (c .before .before .before .before .before .before .args .b)) (value-decimal (c .before .before .before .before .before .before .args .row) (c .before .before .before .before .before .before .args .a) (c .before .before .before .before .before .before .args .b) (c .before .before .before .before .before .before .args .id .now) (c .before .before .before .before .before .before .args .texts .now) (c .before .if2 .taken)) (c .before .before .before .before .before .before .pre .1)
-
-same-length-2 : tie.Need-same-length-2
-same-length-2 c = search needs
 
 returns-2 : tie.Need-returns-2
 returns-2 c = same-put (value-decimal (c .before .before .before .before .before .before .before .before .before .args .row) (c .before .before .before .before .before .before .before .before .before .args .a) (c .before .before .before .before .before .before .before .before .before .args .b) (c .before .before .before .before .before .before .before .before .before .args .id .now) (c .before .before .before .before .before .before .before .before .before .args .texts .now) (c .before .before .before .before .if2 .taken)) (c .before .before .put-decimal .ensures)
@@ -28,20 +22,11 @@ returns-2 c = same-put (value-decimal (c .before .before .before .before .before
 put-escaped-requires : tie.Need-put-escaped-requires
 put-escaped-requires c κs = same-fits (c .before .before .before .before .before .before .before .args .at) (escape (c .before .before .before .before .before .before .before .args .id .now)) (value-id (c .before .before .before .before .before .before .before .args .row) (c .before .before .before .before .before .before .before .args .a) (c .before .before .before .before .before .before .before .args .b) (c .before .before .before .before .before .before .before .args .id .now) (c .before .before .before .before .before .before .before .args .texts .now) (c .before .if3 .taken)) (c .before .before .before .before .before .before .before .pre .1)
 
-same-length-3 : tie.Need-same-length-3
-same-length-3 c = search needs
-
 returns-3 : tie.Need-returns-3
 returns-3 c = same-put (value-id (c .before .before .before .before .before .before .before .before .before .before .args .row) (c .before .before .before .before .before .before .before .before .before .before .args .a) (c .before .before .before .before .before .before .before .before .before .before .args .b) (c .before .before .before .before .before .before .before .before .before .before .args .id .now) (c .before .before .before .before .before .before .before .before .before .before .args .texts .now) (c .before .before .before .before .if3 .taken)) (c .before .before .put-escaped .ensures)
 
-part-requires : tie.Need-part-requires
-part-requires c κs = search needs
-
 put-escaped-requires-2 : tie.Need-put-escaped-requires-2
 put-escaped-requires-2 c κs = same-fits (c .before .before .before .before .before .before .before .before .args .at) (escape (c .before .part .result .now)) (value-text (c .before .before .before .before .before .before .before .before .args .row) (c .before .before .before .before .before .before .before .before .args .a) (c .before .before .before .before .before .before .before .before .args .b) (c .before .before .before .before .before .before .before .before .args .id .now) (c .before .before .before .before .before .before .before .before .args .texts .now) (c .before .before .before .before .before .before .before .before .pre .0) (c .before .before .before .before .if1 .left) (c .before .before .if3 .left) (c .before .before .before .if2 .left) (c .before .part .ensures)) (c .before .before .before .before .before .before .before .before .pre .1)
-
-same-length-4 : tie.Need-same-length-4
-same-length-4 c = search needs
 
 returns-4 : tie.Need-returns-4
 returns-4 c = same-put (value-text (c .before .before .before .before .before .before .before .before .before .before .before .args .row) (c .before .before .before .before .before .before .before .before .before .before .before .args .a) (c .before .before .before .before .before .before .before .before .before .before .before .args .b) (c .before .before .before .before .before .before .before .before .before .before .before .args .id .now) (c .before .before .before .before .before .before .before .before .before .before .before .args .texts .now) (c .before .before .before .before .before .before .before .before .before .before .before .pre .0) (c .before .before .before .before .before .before .before .if1 .left) (c .before .before .before .before .before .if3 .left) (c .before .before .before .before .before .before .if2 .left) (c .before .before .before .before .part .ensures)) (c .before .before .put-escaped2 .ensures)
@@ -51,15 +36,15 @@ put-value-spec =
     tie.close
     (tie.spec
     put-digits-requires
-    same-length
+    (λ c. search needs)
     returns
     put-decimal-requires
-    same-length-2
+    (λ c. search needs)
     returns-2
     put-escaped-requires
-    same-length-3
+    (λ c. search needs)
     returns-3
-    part-requires
+    (λ c κs. search needs)
     put-escaped-requires-2
-    same-length-4
+    (λ c. search needs)
     returns-4)

@@ -6,9 +6,6 @@ use borrow.Author.Needs.{needs}
 use Rattle.writes.proofs.refusing.an_id.Statement.{statement}
 use Rattle.writes.proofs.refusing.an_id.Tie as tie
 
-is-guid-requires : tie.Need-is-guid-requires
-is-guid-requires c κs = search needs
-
 returns : tie.Need-returns
 returns c = sym (ap (λ (b : Bool). cond {A = ℕ} b 0 6) (sym (c .before .is-guid .ensures) ∙ (c .if1 .taken)))
 
@@ -19,6 +16,6 @@ pub an-id-spec : {M : Type 1} → statement M
 an-id-spec =
     tie.close
     (tie.spec
-    is-guid-requires
+    (λ c κs. search needs)
     returns
     returns-2)

@@ -17,9 +17,6 @@ Inv-loop numbers kind cells id texts from count i₀ i = (i ≤ count) × (refus
 abbrev μ-loop : tie.MeasureT-loop
 μ-loop numbers kind cells id texts from count i₀ i = count - i
 
-rows-of-requires : tie.Need-rows-of-requires Inv-loop μ-loop
-rows-of-requires c κs = search needs
-
 loop-holds : tie.Need-loop-holds Inv-loop μ-loop
 loop-holds c = (omega arith, ap (λ (l : List Row). refusalFrom l 0 (c .before .before .before .before .before .args .cells .now) (c .before .before .before .before .before .args .id .now) (c .before .before .before .before .before .args .texts .now)) (c .rows-of .ensures .all) ∙ all-left (λ (l : List Row). refusalFrom l 0 (c .before .before .before .before .before .args .cells .now) (c .before .before .before .before .before .args .id .now) (c .before .before .before .before .before .args .texts .now)) (c .rows-of .result .from) (c .rows-of .result .count))
 
@@ -32,29 +29,17 @@ row-at-requires c κs = ((c .before .before .before .before .before .before .bef
 mul-cell : tie.Need-mul-cell Inv-loop μ-loop
 mul-cell c = omega (arith, (c .before .before .before .rows-of .ensures .within), (c .before .before .before .rows-of .ensures .few), (c .before .loop-test .taken))
 
-cell-requires : tie.Need-cell-requires Inv-loop μ-loop
-cell-requires c κs = search needs
-
 mul-cell-2 : tie.Need-mul-cell-2 Inv-loop μ-loop
 mul-cell-2 c = omega (arith, (c .before .before .before .before .rows-of .ensures .within), (c .before .before .before .before .rows-of .ensures .few), (c .before .before .loop-test .taken))
 
 add-cell : tie.Need-add-cell Inv-loop μ-loop
 add-cell c = omega (arith, (c .before .before .before .before .rows-of .ensures .within), (c .before .before .before .before .rows-of .ensures .few), (c .before .before .loop-test .taken))
 
-cell-requires-2 : tie.Need-cell-requires-2 Inv-loop μ-loop
-cell-requires-2 c κs = search needs
-
 mul-cell-3 : tie.Need-mul-cell-3 Inv-loop μ-loop
 mul-cell-3 c = omega (arith, (c .before .before .before .before .before .rows-of .ensures .within), (c .before .before .before .before .before .rows-of .ensures .few), (c .before .before .before .loop-test .taken))
 
 add-cell-2 : tie.Need-add-cell-2 Inv-loop μ-loop
 add-cell-2 c = omega (arith, (c .before .before .before .before .before .rows-of .ensures .within), (c .before .before .before .before .before .rows-of .ensures .few), (c .before .before .before .loop-test .taken))
-
-cell-requires-3 : tie.Need-cell-requires-3 Inv-loop μ-loop
-cell-requires-3 c κs = search needs
-
-refusal-at-requires : tie.Need-refusal-at-requires Inv-loop μ-loop
-refusal-at-requires c κs = search needs
 
 returns : tie.Need-returns Inv-loop μ-loop
 returns c = sym ((c .before .before .before .before .before .before .before .loop .inv .1) ∙ refusal-step (c .before .before .before .before .before .before .before .before .rows-of .result .from) (c .before .before .before .before .before .before .before .before .rows-of .result .count) (c .before .before .before .before .before .before .before .loop .i) (c .before .before .before .before .before .before .before .before .before .before .before .before .before .args .cells .now) (c .before .before .before .before .before .before .loop-test .taken) (c .before .before .before .before .before .row-at .ensures) (c .before .before .before .before .cell .ensures) (c .before .before .before .before .before .before .before .before .before .before .before .before .before .args .id .now) (c .before .before .before .before .before .before .before .before .before .before .before .before .before .args .texts .now) (c .before .before .before .cell2 .ensures) (c .before .before .cell3 .ensures) (c .before .refusal-at .ensures) ∙ decides (c .before .refusal-at .result) _ (c .if1 .taken))
@@ -77,19 +62,19 @@ refusal-of-rows-spec =
     (tie.spec
     Inv-loop
     μ-loop
-    rows-of-requires
+    (λ c κs. search needs)
     loop-holds
     add-row-at
     row-at-requires
     mul-cell
-    cell-requires
+    (λ c κs. search needs)
     mul-cell-2
     add-cell
-    cell-requires-2
+    (λ c κs. search needs)
     mul-cell-3
     add-cell-2
-    cell-requires-3
-    refusal-at-requires
+    (λ c κs. search needs)
+    (λ c κs. search needs)
     returns
     add-i
     loop-less

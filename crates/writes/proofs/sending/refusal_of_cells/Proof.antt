@@ -7,9 +7,6 @@ use borrow.Author.Needs.{needs}
 use Rattle.writes.proofs.sending.refusal_of_cells.Statement.{statement}
 use Rattle.writes.proofs.sending.refusal_of_cells.Tie as tie
 
-slice-aggregate-refusal-of-rows : tie.Need-slice-aggregate-refusal-of-rows
-slice-aggregate-refusal-of-rows c = search needs
-
 refusal-of-rows-requires : tie.Need-refusal-of-rows-requires
 unfolding numbers table
 refusal-of-rows-requires c κs = refl
@@ -18,4 +15,4 @@ returns : tie.Need-returns
 returns c = c .refusal-of-rows .ensures ∙ cells-refused _ _ _ _
 
 pub refusal-of-cells-spec : {M : Type 1} → statement M
-refusal-of-cells-spec = tie.close (tie.spec slice-aggregate-refusal-of-rows refusal-of-rows-requires returns)
+refusal-of-cells-spec = tie.close (tie.spec (λ c. search needs) refusal-of-rows-requires returns)

@@ -10,9 +10,6 @@ returns c = long-some (c .before .before .args .texts .now) (c .before .before .
 returns-2 : tie.Need-returns-2
 returns-2 c = no-some (c .before .before .before .args .texts .now) (c .before .before .before .args .p) (c .before .before .before .args .most) (c .before .if1 .left) (c .if2 .taken)
 
-is-sendable-requires : tie.Need-is-sendable-requires
-is-sendable-requires c κs = search needs
-
 returns-3 : tie.Need-returns-3
 returns-3 c = good-some (c .before .before .before .before .before .args .texts .now) (c .before .before .before .before .before .args .p) (c .before .before .before .before .before .args .most) (c .before .before .before .if1 .left) (c .before .before .if2 .left) (c .before .is-sendable .ensures) (c .if3 .taken)
 
@@ -25,6 +22,6 @@ some-text-spec =
     (tie.spec
     returns
     returns-2
-    is-sendable-requires
+    (λ c κs. search needs)
     returns-3
     returns-4)

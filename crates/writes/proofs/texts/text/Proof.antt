@@ -7,9 +7,6 @@ use Rattle.writes.proofs.texts.text.Tie as tie
 returns : tie.Need-returns
 returns c = long-text (c .before .before .args .texts .now) (c .before .before .args .p) (c .before .before .args .most) (c .if1 .taken)
 
-is-sendable-requires : tie.Need-is-sendable-requires
-is-sendable-requires c κs = search needs
-
 returns-2 : tie.Need-returns-2
 returns-2 c = good-text (c .before .before .before .before .args .texts .now) (c .before .before .before .before .args .p) (c .before .before .before .before .args .most) (c .before .before .if1 .left) (c .before .is-sendable .ensures) (c .if2 .taken)
 
@@ -21,6 +18,6 @@ text-spec =
     tie.close
     (tie.spec
     returns
-    is-sendable-requires
+    (λ c κs. search needs)
     returns-2
     returns-3)

@@ -12,35 +12,8 @@ use Rattle.texts.proofs.refusal_of.Reads as refusal-of-reads
 use Rattle.texts.proofs.text_part.Reads as text-part-reads
 use Rattle.texts.proofs.text_decode.Reads as text-decode-reads
 
-slice-aggregate-text-decode : tie.Need-slice-aggregate-text-decode
-slice-aggregate-text-decode c = search needs
-
-text-decode-requires : tie.Need-text-decode-requires
-text-decode-requires c κs = search needs
-
-slice-aggregate-text-part : tie.Need-slice-aggregate-text-part
-slice-aggregate-text-part c = search needs
-
-text-part-requires : tie.Need-text-part-requires
-text-part-requires c κs = search needs
-
-refusal-of-requires : tie.Need-refusal-of-requires
-refusal-of-requires c κs = search needs
-
-reply-with-requires : tie.Need-reply-with-requires
-reply-with-requires c κs = search needs
-
-reply-bare-requires : tie.Need-reply-bare-requires
-reply-bare-requires c κs = search needs
-
-same-length : tie.Need-same-length
-same-length c = search needs
-
 returns : tie.Need-returns
 returns c = says-text _ (c .before .before .before .before .before .before .before .before .before .text-decode .ensures) (c .before .before .before .before .before .refusal-of .ensures) _ _ (c .before .before .before .before .before .before .text-part .ensures) (c .before .before .before .before .match .keys1) (c .before .before .reply-with .ensures)
-
-same-length-2 : tie.Need-same-length-2
-same-length-2 c = search needs
 
 returns-2 : tie.Need-returns-2
 returns-2 c = says-absent _ (c .before .before .before .before .before .before .before .before .before .text-decode .ensures) (c .before .before .before .before .before .refusal-of .ensures) (c .before .before .before .before .match .keys2) (c .before .before .reply-bare .ensures)
@@ -55,16 +28,16 @@ pub reply-spec : {M : Type 1} → statement M
 reply-spec =
     tie.close
     (tie.spec
-    slice-aggregate-text-decode
-    text-decode-requires
-    slice-aggregate-text-part
-    text-part-requires
-    refusal-of-requires
-    reply-with-requires
-    reply-bare-requires
-    same-length
+    (λ c. search needs)
+    (λ c κs. search needs)
+    (λ c. search needs)
+    (λ c κs. search needs)
+    (λ c κs. search needs)
+    (λ c κs. search needs)
+    (λ c κs. search needs)
+    (λ c. search needs)
     returns
-    same-length-2
+    (λ c. search needs)
     returns-2
     returns-3
     returns-4)

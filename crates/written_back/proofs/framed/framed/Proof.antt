@@ -14,9 +14,6 @@ same-length c = c .before .before .put-framed .ensures .long
 returns : tie.Need-returns
 returns c = first-fits (c .before .before .put-framed .ensures) (omega (arith, c .before .before .before .before .if1 .taken, framed-small (c .before .before .before .before .before .before .before .before .before .args .front .now) (c .before .before .before .before .before .before .before .before .before .args .text .now) (c .before .before .before .before .before .before .before .before .before .args .back .now) (c .before .before .before .before .before .before .before .before .before .pre .0) (c .before .before .before .before .before .before .before .before .before .pre .1) (c .before .before .before .before .before .before .before .before .before .pre .2)))
 
-slice-aggregate-put-framed : tie.Need-slice-aggregate-put-framed
-slice-aggregate-put-framed c = search needs
-
 put-framed-requires-2 : tie.Need-put-framed-requires-2
 put-framed-requires-2 c κs = omega (arith, framed-small (c .before .before .before .before .before .before .args .front .now) (c .before .before .before .before .before .before .args .text .now) (c .before .before .before .before .before .before .args .back .now) (c .before .before .before .before .before .before .pre .0) (c .before .before .before .before .before .before .pre .1) (c .before .before .before .before .before .before .pre .2))
 
@@ -39,7 +36,7 @@ framed-spec =
     put-framed-requires
     same-length
     returns
-    slice-aggregate-put-framed
+    (λ c. search needs)
     put-framed-requires-2
     returns-2
     put-framed-requires-3

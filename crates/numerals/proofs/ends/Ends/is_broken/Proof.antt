@@ -7,9 +7,6 @@ use Rattle.numerals.proofs.Cases.{not-broken}
 use Rattle.numerals.proofs.ends.Ends.is_broken.Statement.{statement}
 use Rattle.numerals.proofs.ends.Ends.is_broken.Tie as tie
 
-enum-told : tie.Need-enum-told
-enum-told c = search needs
-
 returns : tie.Need-returns
 unfolding broken
 returns c = known broken (c .enum-told .given .1) refl
@@ -18,4 +15,4 @@ returns-2 : tie.Need-returns-2
 returns-2 c = not-broken _ (c .match .keys2)
 
 pub is-broken-spec : {M : Type 1} → statement M
-is-broken-spec = tie.close (tie.spec enum-told returns returns-2)
+is-broken-spec = tie.close (tie.spec (λ c. search needs) returns returns-2)

@@ -7,9 +7,6 @@ use Rattle.numerals.proofs.Cases.{not-inside}
 use Rattle.numerals.proofs.ends.Ends.is_inside.Statement.{statement}
 use Rattle.numerals.proofs.ends.Ends.is_inside.Tie as tie
 
-enum-told : tie.Need-enum-told
-enum-told c = search needs
-
 returns : tie.Need-returns
 unfolding inside
 returns c = known inside (c .enum-told .given .1) refl
@@ -18,4 +15,4 @@ returns-2 : tie.Need-returns-2
 returns-2 c = not-inside _ (c .match .keys2)
 
 pub is-inside-spec : {M : Type 1} → statement M
-is-inside-spec = tie.close (tie.spec enum-told returns returns-2)
+is-inside-spec = tie.close (tie.spec (λ c. search needs) returns returns-2)

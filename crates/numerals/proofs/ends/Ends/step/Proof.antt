@@ -9,30 +9,6 @@ use Rattle.numerals.proofs.Picks.{known}
 use Rattle.numerals.proofs.ends.Ends.step.Statement.{statement}
 use Rattle.numerals.proofs.ends.Ends.step.Tie as tie
 
-is-blank-requires : tie.Need-is-blank-requires
-is-blank-requires c κs = search needs
-
-enum-told : tie.Need-enum-told
-enum-told c = search needs
-
-either-requires : tie.Need-either-requires
-either-requires c κs = search needs
-
-enum-told-2 : tie.Need-enum-told-2
-enum-told-2 c = search needs
-
-either-requires-2 : tie.Need-either-requires-2
-either-requires-2 c κs = search needs
-
-enum-told-3 : tie.Need-enum-told-3
-enum-told-3 c = search needs
-
-either-requires-3 : tie.Need-either-requires-3
-either-requires-3 c κs = search needs
-
-enum-told-4 : tie.Need-enum-told-4
-enum-told-4 c = search needs
-
 returns : tie.Need-returns
 unfolding endsStep
 returns c = known (λ s. endsStep s (c .before .before .before .before .args .b)) (c .before .enum-told .given .1) (c .either .ensures ∙ ap (λ (t : Bool). pick t Ends.Front Ends.Inside) (c .before .before .before .is-blank .ensures))
@@ -53,14 +29,14 @@ pub step-spec : {M : Type 1} → statement M
 step-spec =
     tie.close
     (tie.spec
-    is-blank-requires
-    enum-told
-    either-requires
-    enum-told-2
-    either-requires-2
-    enum-told-3
-    either-requires-3
-    enum-told-4
+    (λ c κs. search needs)
+    (λ c. search needs)
+    (λ c κs. search needs)
+    (λ c. search needs)
+    (λ c κs. search needs)
+    (λ c. search needs)
+    (λ c κs. search needs)
+    (λ c. search needs)
     returns
     returns-2
     returns-3

@@ -7,60 +7,6 @@ use borrow.Author.Needs.{needs}
 use Rattle.numerals.proofs.scan.Body.step.Statement.{statement}
 use Rattle.numerals.proofs.scan.Body.step.Tie as tie
 
-enum-told : tie.Need-enum-told
-enum-told c = search needs
-
-first-step-requires : tie.Need-first-step-requires
-first-step-requires c κs = search needs
-
-enum-known-self : tie.Need-enum-known-self
-enum-known-self c = search needs
-
-sign-step-requires : tie.Need-sign-step-requires
-sign-step-requires c κs = search needs
-
-enum-known-self-2 : tie.Need-enum-known-self-2
-enum-known-self-2 c = search needs
-
-whole-step-requires : tie.Need-whole-step-requires
-whole-step-requires c κs = search needs
-
-enum-told-2 : tie.Need-enum-told-2
-enum-told-2 c = search needs
-
-no-digits-requires : tie.Need-no-digits-requires
-no-digits-requires c κs = search needs
-
-part-digit-requires : tie.Need-part-digit-requires
-part-digit-requires c κs = search needs
-
-enum-known-self-3 : tie.Need-enum-known-self-3
-enum-known-self-3 c = search needs
-
-part-step-requires : tie.Need-part-step-requires
-part-step-requires c κs = search needs
-
-enum-known-self-4 : tie.Need-enum-known-self-4
-enum-known-self-4 c = search needs
-
-mark-step-requires : tie.Need-mark-step-requires
-mark-step-requires c κs = search needs
-
-enum-known-self-5 : tie.Need-enum-known-self-5
-enum-known-self-5 c = search needs
-
-power-digit-requires : tie.Need-power-digit-requires
-power-digit-requires c κs = search needs
-
-enum-known-self-6 : tie.Need-enum-known-self-6
-enum-known-self-6 c = search needs
-
-power-digit-requires-2 : tie.Need-power-digit-requires-2
-power-digit-requires-2 c κs = search needs
-
-enum-told-3 : tie.Need-enum-told-3
-enum-told-3 c = search needs
-
 returns : tie.Need-returns
 unfolding bodyStep
 returns c = known (λ s. bodyStep s (c .before .before .before .args .b)) (c .before .enum-told .given .1) (c .first-step .ensures)
@@ -101,24 +47,24 @@ pub step-spec : {M : Type 1} → statement M
 step-spec =
     tie.close
     (tie.spec
-    enum-told
-    first-step-requires
-    enum-known-self
-    sign-step-requires
-    enum-known-self-2
-    whole-step-requires
-    enum-told-2
-    no-digits-requires
-    part-digit-requires
-    enum-known-self-3
-    part-step-requires
-    enum-known-self-4
-    mark-step-requires
-    enum-known-self-5
-    power-digit-requires
-    enum-known-self-6
-    power-digit-requires-2
-    enum-told-3
+    (λ c. search needs)
+    (λ c κs. search needs)
+    (λ c. search needs)
+    (λ c κs. search needs)
+    (λ c. search needs)
+    (λ c κs. search needs)
+    (λ c. search needs)
+    (λ c κs. search needs)
+    (λ c κs. search needs)
+    (λ c. search needs)
+    (λ c κs. search needs)
+    (λ c. search needs)
+    (λ c κs. search needs)
+    (λ c. search needs)
+    (λ c κs. search needs)
+    (λ c. search needs)
+    (λ c κs. search needs)
+    (λ c. search needs)
     returns
     returns-2
     returns-3
