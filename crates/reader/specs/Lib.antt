@@ -1,4 +1,4 @@
--- What the public calls promise: Outline, Answer, Child; what follows: Parts, Theorems; demand 3 of every result: Demand3, Turns.
+-- What the public calls promise: Answer, Child; what follows: Parts, Theorems; demand 3 of every result: Demand3, Turns.
 pub mod Answer
 pub mod Child
 pub mod Parts

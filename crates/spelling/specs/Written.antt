@@ -1,4 +1,4 @@
--- The bytes that the writer puts down for a text and for a decimal. An Int is `printInt` of `printing`.
+-- The bytes that the writer puts down for a text and for a decimal. An Int is `printInt` of `number`.
 use mathlib.Core.List.{[], _∷_, _++_}
 use mathlib.Core.Bool.{cond}
 use Prim.Native.Nat.{ℕ, _-_, _/_, _%_, _^_, min}
