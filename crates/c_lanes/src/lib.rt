@@ -1,4 +1,6 @@
 // The calls for C that look at no message: a new lane and a lost one, the class of a Route, the version.
+#![tactic(auto)]
+
 mod lanes;
 mod routing;
 mod versions;

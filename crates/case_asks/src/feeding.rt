@@ -3,7 +3,7 @@ use case_words::show::{put, small, told};
 use lines::Listed;
 
 /// Bytes at..len of the input are in the window; the last line is printed or not.
-#[derive(Drop)]
+#[derive(Clone, Copy)]
 struct Window {
     at: usize,
     len: usize,

@@ -25,7 +25,7 @@ const F: [u8; 36] = *b"ffffffff-ffff-ffff-ffff-ffffffffffff";
 const Z: [u8; 36] = *b"00000000-0000-0000-0000-000000000000";
 
 /// The three numbers of a value, the letter of the message's id so far, and the place behind the word.
-#[derive(Drop)]
+#[derive(Clone, Copy)]
 struct Value {
     there: u64,
     a: u64,

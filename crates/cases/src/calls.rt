@@ -14,7 +14,7 @@ use message::Message;
 const ROOM: usize = 600;
 
 /// The lanes that a line can name, and how many bytes were sent last.
-#[derive(Drop)]
+#[derive(Clone, Copy)]
 pub struct Lanes {
     up: Lane,
     down: Lane,
@@ -24,7 +24,7 @@ pub struct Lanes {
 }
 
 /// A lane after a call, and how many bytes were sent last.
-#[derive(Drop)]
+#[derive(Clone, Copy)]
 struct After {
     lane: Lane,
     sent: usize,

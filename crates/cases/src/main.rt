@@ -1,6 +1,8 @@
 // Runs the cases of standard input, a line each, and writes each line up to its tab with what the call answers. A line that is empty or starts with
 // `#` is copied. The first letter of a line says which call it is; the heads of `calls`, of `asks` in `case_asks` and of `given` in `case_words` say what its words are. Its bytes stand
 // behind a tab: `\xHH` is one byte, and `\{N}` makes the next byte N of them.
+#![tactic(auto)]
+
 mod calls;
 
 use calls::Lanes;

@@ -1,4 +1,6 @@
 // The numbers of a message: one of them, the kind, a text, the BoardId; all of them cleared.
+#![tactic(auto)]
+
 mod ids;
 mod numbers;
 

@@ -1,4 +1,6 @@
 // Why a message is refused: the row of the table that decided, and where its raw value stands.
+#![tactic(auto)]
+
 ghost use Rattle.std.specs.Prelude.{◌≡◌};
 ghost use Rattle.rows.specs.Coding.{numbers as coding, names as letters, Sound};
 ghost use Rattle.reads.specs.Held.{Held};
@@ -14,7 +16,7 @@ use tags::attributes::PLACES;
 use value::Words;
 
 /// A row that decided: its refusal, its number among the rows of its kind, and the raw value of its attribute. Zeros if none did.
-#[derive(Drop)]
+#[derive(Clone, Copy)]
 pub struct Ruling {
     pub refusal: u8,
     pub row: usize,
@@ -23,7 +25,7 @@ pub struct Ruling {
 
 /// What decided over a message: the refusal and the kind that checking says; of 4, 5 and 6 the row, counted from 0 in table order, and where its
 /// raw value stands, if the attribute is there. With every other answer no row did: row 0, and no value.
-#[derive(Drop)]
+#[derive(Clone, Copy)]
 pub struct Decision {
     pub refusal: u8,
     pub kind: u8,

@@ -8,7 +8,7 @@ use crate::utf8::{utf8_byte, utf8_len};
 use pieces::Piece;
 
 /// How long a value reads, or that the bytes are no items.
-#[derive(Drop)]
+#[derive(Clone, Copy)]
 pub enum Length {
     Is(usize),
     Not,

@@ -1,4 +1,6 @@
 // A value as it stands in a message, decoded: as a text, a number, an id, a version.
+#![tactic(auto)]
+
 pub mod decode;
 mod id;
 mod numbers;

@@ -13,7 +13,7 @@ use numerals::Scan;
 use pieces::Piece;
 
 /// The scan of what a value reads as, or that the bytes are no items.
-#[derive(Drop)]
+#[derive(Clone, Copy)]
 pub enum Walk {
     Read(Scan),
     Unread,

@@ -1,4 +1,6 @@
 // What the chart looks at in a message of cells: its kind, its BoardId and its ForecastId.
+#![tactic(auto)]
+
 mod named;
 mod receiving;
 mod sending;

@@ -15,7 +15,7 @@ use Rattle.grammar.specs.Value.{Item}
 use Rattle.grammar.specs.Filler.{below_root, in_text, Filler, brackets, stopper}
 use Rattle.model.specs.Values.{item_p}
 use Rattle.model.specs.Fillers.{text_p, FillAcc, added}
-use Rattle.scan.proofs.Chain.{never}
+use Rattle.pieces.proofs.Answers.{never}
 use Rattle.scan.specs.declared.Step.{Step}
 use Rattle.scan.specs.declared.Step.TheVariants.{Done, Open as Unended}
 use Rattle.pieces.specs.Says.{Known, Says, step_of}

@@ -1,5 +1,7 @@
 // What stands between elements: glue, comments, and below the root text. Where there is neither text nor comment, glue is passed
 // over and two bytes are looked at.
+#![tactic(auto)]
+
 ghost use Rattle.std.specs.Prelude.{◌≡◌, true, ◌≤◌, length};
 ghost use Rattle.fillers.specs.Fills.{site_of, GotGap, TagAt, GotFiller};
 

@@ -1,8 +1,10 @@
 // The limits that document 01 sets, for code. Which byte strings are messages stands in specs/.
+#![tactic(auto)]
+
 ghost use Rattle.std.specs.Prelude.{◌≡◌};
 ghost use Rattle.grammar.specs.Limits.{MESSAGE, NAME, ATTRIBUTES, DEPTH};
 
-#[derive(Drop)]
+#[derive(Clone, Copy)]
 pub struct Limits {}
 
 impl Limits {

@@ -1,4 +1,6 @@
 // The public calls of a lane: a message is received or sent, and the record, the belt order and the buffer follow.
+#![tactic(auto)]
+
 mod receiving;
 mod sending;
 

@@ -1,5 +1,7 @@
 // The library's calls for C: numbers, byte slices and arrays of numbers only. A slice is a pointer and then its length. What is lent to a
 // call does not overlap.
+#![tactic(auto)]
+
 mod asking;
 mod checking;
 mod reading;

@@ -1,7 +1,7 @@
 // What the chart answers.
 
 /// What a message does to the state.
-#[derive(Drop)]
+#[derive(Clone, Copy)]
 pub enum Step {
     To(u8),
     NoTransition,

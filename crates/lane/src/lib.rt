@@ -1,4 +1,6 @@
 // The handover state of one lane: its record, a new one, and one whose connection was lost. What a message makes of it is defined here; `moves` does it.
+#![tactic(auto)]
+
 mod names; // names.rt: the numbers by name
 mod chart; // chart.rt: what the chart answers
 mod ids; // ids.rt: the ForecastId
@@ -13,7 +15,7 @@ pub use ids::Forecast;
 pub use names::{Kind, Order, Refusal, Side, State};
 
 /// A lane: our side, one of nine states, the two BoardIds, and the ForecastId that is kept.
-#[derive(Drop)]
+#[derive(Clone, Copy)]
 pub struct Lane {
     pub side: u8,
     pub state: u8,
@@ -24,7 +26,7 @@ pub struct Lane {
 
 /// What a lane looks at in a message: its kind, and its BoardId (any bytes where its kind has none);
 /// whether it carries a ForecastId, and that (any where it carries none).
-#[derive(Drop)]
+#[derive(Clone, Copy)]
 pub struct Event {
     pub kind: u8,
     pub id: [u8; 36],
@@ -33,7 +35,7 @@ pub struct Event {
 }
 
 /// What a message did: a refusal number (0: accepted), the lane after it, and the belt order.
-#[derive(Drop)]
+#[derive(Clone, Copy)]
 pub struct Moved {
     pub refusal: u8,
     pub lane: Lane,

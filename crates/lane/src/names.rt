@@ -1,7 +1,7 @@
 // The numbers that stand for document 01's words. specs/Names.antt has the same ones.
 
 /// Sides of a handover: ours, and a message's sender.
-#[derive(Drop)]
+#[derive(Clone, Copy)]
 pub struct Side;
 
 impl Side {
@@ -11,7 +11,7 @@ impl Side {
 }
 
 /// The nine states, in the order of document 01's table.
-#[derive(Drop)]
+#[derive(Clone, Copy)]
 pub struct State;
 
 impl State {
@@ -35,7 +35,7 @@ impl State {
 }
 
 /// The kinds of message, as document 01's attribute table numbers them; 0 is a name that is not in it.
-#[derive(Drop)]
+#[derive(Clone, Copy)]
 pub struct Kind;
 
 impl Kind {
@@ -65,7 +65,7 @@ impl Kind {
 }
 
 /// Belt orders.
-#[derive(Drop)]
+#[derive(Clone, Copy)]
 pub struct Order;
 
 impl Order {
@@ -79,7 +79,7 @@ impl Order {
 }
 
 /// The refusals that a chart gives.
-#[derive(Drop)]
+#[derive(Clone, Copy)]
 pub struct Refusal;
 
 impl Refusal {

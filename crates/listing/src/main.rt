@@ -1,5 +1,7 @@
 // Lists the messages of standard input: a line for each, and a last line that says how the input ends.
 // Only a window of the input is held: list_step says of it what the whole input shows.
+#![tactic(auto)]
+
 ghost use Rattle.std.specs.Prelude.{◌≡◌, ◌≤◌, length};
 ghost use Rattle.grammar.specs.Limits.{MESSAGE};
 ghost use Rattle.windows.specs.Printed.{LINE};

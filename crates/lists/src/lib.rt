@@ -1,4 +1,6 @@
 // The listing's lines, found one by one in a window of the input.
+#![tactic(auto)]
+
 ghost use Rattle.std.specs.Prelude.{◌≡◌, cond};
 ghost use Rattle.lines.specs.Step.{ListStep};
 ghost use Rattle.lines.specs.declared.Listed.TheVariants.{Drop, End};

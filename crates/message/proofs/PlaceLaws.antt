@@ -58,6 +58,7 @@ reads_at s at (a ∷ l) after (good_each ga gl) e n p h = go (same n a.name) ref
 
 pub not_there : (at : ℕ) (l : List Attribute) (n : Bytes) → place_of at l n ≡ Absent → (v : Bytes) → Has n v (read_attributes l) → ⊥
 unfolding place_of
+not_there at [] n h v x = elim x [ ]
 not_there at (a ∷ l) n h v (has_here f e) = let z : Present (record { start = value_at at a; len = length (spell_value a.value) }) ≡ Absent = ap (λ (z : Bool). cond z (Present (record { start = value_at at a; len = length (spell_value a.value) })) (place_of (value_end at a + 1) l n)) (sym f) ∙ h in let y : ◌≡◌ {A = ℕ} 0 1 = cc in omega arith
 not_there at (a ∷ l) n h v (has_later f k) = not_there (value_end at a + 1) l n (ap (λ (z : Bool). cond z (Present (record { start = value_at at a; len = length (spell_value a.value) })) (place_of (value_end at a + 1) l n)) (sym f) ∙ h) v k
 

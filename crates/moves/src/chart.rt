@@ -7,7 +7,7 @@ ghost use Rattle.moves.specs.Entry.{IsEntry};
 use lane::{Kind, Side, State, Step};
 
 // What the table has for a state and a kind: the side that may send it, and the next state.
-#[derive(Drop)]
+#[derive(Clone, Copy)]
 enum Entry {
     From(u8, u8),
     ReceivedFrom(u8, u8),

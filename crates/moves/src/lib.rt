@@ -1,4 +1,6 @@
 // What a message does to a lane: received, sent, or refused so that the connection ends. Nothing here reads or writes bytes of a message.
+#![tactic(auto)]
+
 mod chart; // chart.rt: which message makes which transition
 mod ids; // ids.rt: ids compared, and what a ForecastId reads as
 

@@ -1,5 +1,7 @@
 // What the decoded bytes of an attribute are worth: Int, Positive number, GUID, Version. Definitions and the types of the answers; `numerals` and
 // `shapes` have the functions.
+#![tactic(auto)]
+
 mod positive;
 mod whole;
 

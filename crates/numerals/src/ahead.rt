@@ -9,7 +9,7 @@ use crate::ends::Ends;
 use crate::scan::{Body, Digits, Scan, TENTH};
 
 // A run of digits: what they write behind the digits before it, and the place behind it.
-#[derive(Drop)]
+#[derive(Clone, Copy)]
 struct Run {
     n: u64,
     end: usize,

@@ -6,7 +6,7 @@ ghost use Rattle.numerals.specs.Scan.{ends_step, inside, broken};
 use crate::byte::is_blank;
 
 /// Where a scan stands towards the blanks at the ends. Broken: a blank stood inside.
-#[derive(Drop)]
+#[derive(Clone, Copy)]
 pub enum Ends {
     Front,
     Inside,

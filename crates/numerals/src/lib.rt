@@ -1,4 +1,6 @@
 // Ints and positive numbers, read by one scan: a state by value with a step for a byte, so that a caller can feed bytes that stand nowhere in a row.
+#![tactic(auto)]
+
 mod ahead;
 pub mod byte;
 pub mod ends;

@@ -17,7 +17,7 @@ const NEAR: u64 = 1000000000000000000;
 
 /// The digits so far, before and behind the point: they write n with so many zeros behind it, of which only those are left out of n that would
 /// bring it to the top. An n at the top has more digits that matter than a positive number may have. Of the digits so many stand behind the point.
-#[derive(Drop)]
+#[derive(Clone, Copy)]
 pub struct Digits {
     pub n: u64,
     pub zeros: u64,
@@ -26,7 +26,7 @@ pub struct Digits {
 
 /// A number without its blanks, as far as read: a sign; digits with the sign before them; a point, and no digit yet; digits with a point; the mark
 /// of an exponent behind digits; its sign, whether it is a minus; its digits, as a number up to the bound.
-#[derive(Drop)]
+#[derive(Clone, Copy)]
 pub enum Body {
     Start,
     Signed(bool),
@@ -40,7 +40,7 @@ pub enum Body {
 }
 
 /// A number, as far as read.
-#[derive(Drop)]
+#[derive(Clone, Copy)]
 pub struct Scan {
     pub ends: Ends,
     pub body: Body,

@@ -1,21 +1,17 @@
 -- Answers taken apart, passed on and put together; what combinators do at a position.
 use mathlib.Core.Path.{◌≡◌, refl, sym, subst, ◌∙◌}
 use mathlib.Core.List.{[], ◌∷◌}
-use mathlib.Core.Logic.{⊎_elim}
 use mathlib.Core.Bool.{Bool, true, false}
 use Prim.Native.Nat.{ℕ, ◌+◌, ◌≤◌, ◌<◌}
 use native.Mathlib.Omega.{arith}
 use native.Mathlib.Numerals.{add-one}
 use lib.ListN.{length, drop, get_or, drop_of_length-le}
-use types.Run.{OneOf}
 use lib.Seq.{drop-cons}
 use Rattle.exact.specs.Exact.{Out, done, more, bad, Reader}
 use Rattle.exact.specs.Chain.{ret_p, and_then}
 use Rattle.exact.specs.Byte.{pick, on_p}
 use Rattle.grammar.specs.Bytes.{Bytes, same}
 use Rattle.pieces.specs.Says.{Known, PieceCase, Says, step_of, piece_of}
-use denote.Enum.Declared.{tag_of, declared}
-use Rattle.pieces.specs.contracts.Piece.{enum}
 use Rattle.scan.specs.Pieces.{Got as StepSays}
 use Rattle.scan.specs.declared.Step.{Step}
 use Rattle.scan.specs.declared.Step.TheVariants.{Done, Open as Unended, Bad as Dead}
@@ -24,10 +20,10 @@ use Rattle.pieces.specs.declared.Piece.TheVariants.{Got, Open, Bad}
 
 -- the answer is no Got
 abbrev pub Fails : Piece → Type 0
-Fails r = OneOf (1 ∷ 2 ∷ []) (tag_of (declared enum) r)
+Fails r = (c e : ℕ) → r ≡ Got c e → ⊥
 
-never : {A : Type 0} → OneOf (1 ∷ 2 ∷ []) 0 → A
-never h = absurd (⊎_elim (λ (q : 0 ≡ 1). omega arith) (λ (q : 0 ≡ 2). omega arith) h)
+pub never : {A : Type 0} {c e : ℕ} → Fails (Got c e) → A
+never {A} {c} {e} f = absurd (f c e refl)
 
 -- an answer that is known
 pub known : {A : Type 0} {f : A → ℕ} {k : ℕ} {s : Bytes} {at : ℕ} {r : Piece} {o : Out A} {c e : ℕ} → r ≡ Got c e → Says f k s at r o → Known f k s at c e o

@@ -1,5 +1,7 @@
 // What stands in a value: characters and references, up to the quote that ends it.
 // Each function says what the model at its place says.
+#![tactic(auto)]
+
 ghost use Rattle.std.specs.Prelude.{◌≡◌};
 ghost use Rattle.pieces.specs.Says.{step_of, piece_of};
 
@@ -10,7 +12,7 @@ pub mod references;
 pub mod values;
 
 /// One reference or character: its code point and the next place; the input ended inside; the first byte after which nothing fits.
-#[derive(Drop)]
+#[derive(Clone, Copy)]
 pub enum Piece {
     Got(usize, usize),
     Open,

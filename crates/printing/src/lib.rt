@@ -1,5 +1,7 @@
 // Bytes and numbers put into a buffer. Printing never fails: what does not fit is not written, but the place that is returned counts it,
 // so that a run on an empty slice measures.
+#![tactic(auto)]
+
 mod bytes;
 mod digits;
 

@@ -1,10 +1,12 @@
 // What receiving and sending promise: their answers, definitions and theorems. No functions.
+#![tactic(auto)]
+
 use lane::Lane;
 use message::Message;
 
 /// What receiving answers: the refusal; the lane after it and the belt order; how many bytes of the input are used, how many of the buffer
 /// are written; the place of a malformed byte; and an accepted message.
-#[derive(Drop)]
+#[derive(Clone, Copy)]
 pub struct Received {
     pub refusal: u8,
     pub lane: Lane,
@@ -16,7 +18,7 @@ pub struct Received {
 }
 
 /// The same, but for what the message says: its kind and its BoardId.
-#[derive(Drop)]
+#[derive(Clone, Copy)]
 pub struct Receipt {
     pub refusal: u8,
     pub lane: Lane,
@@ -29,7 +31,7 @@ pub struct Receipt {
 }
 
 /// What sending answers: the refusal; the lane after it and the belt order; and how many bytes of the buffer are written.
-#[derive(Drop)]
+#[derive(Clone, Copy)]
 pub struct Sent {
     pub refusal: u8,
     pub lane: Lane,

@@ -24,7 +24,7 @@ pub fn end_tag(s: &[u8], at: usize, from: usize, to: usize) -> Step
 }
 
 /// A start tag or an empty tag: where its name ends, whether it is empty, how many attributes it has, where it ends.
-#[derive(Drop)]
+#[derive(Clone, Copy)]
 pub struct Start {
     pub to: usize,
     pub empty: bool,

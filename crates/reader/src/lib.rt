@@ -1,4 +1,6 @@
 // The reader of messages: what stands behind the glue in front of an input, as one of the four answers.
+#![tactic(auto)]
+
 ghost use Rattle.std.specs.Prelude.{◌≡◌};
 ghost use Rattle.grammar.specs.Answer.{Answers};
 ghost use Rattle.reader.specs.Answer.{paper, AtMost, bare, Outlined};

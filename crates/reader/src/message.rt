@@ -14,7 +14,7 @@ const HERMES: [u8; 6] = *b"Hermes";
 
 /// Where reading ended; and of an element where its name stands, how many attributes it has, and the place behind its
 /// start tag, 0 if it is an empty tag.
-#[derive(Drop)]
+#[derive(Clone, Copy)]
 pub struct Inner {
     pub end: Step,
     pub from: usize,

@@ -11,7 +11,7 @@ use rows::kind_named;
 use rows::same::same;
 
 /// The first child of a name: whether there is one, and the place behind its start tag, 0 if it is an empty tag.
-#[derive(Drop)]
+#[derive(Clone, Copy)]
 pub struct Named {
     pub found: bool,
     pub inside: usize,
@@ -114,7 +114,7 @@ fn supported(s: &[u8], inside: usize) -> Tried
 }
 
 /// An element's kind, and of one that has them its features.
-#[derive(Drop)]
+#[derive(Clone, Copy)]
 pub struct Sort {
     pub kind: u8,
     pub features: Tried,

@@ -1,5 +1,7 @@
 // What a message says. One loop tries the rows of a message's kind on its tag, and puts down a cell of three numbers for each; a message that is not
 // refused is handed out as its kind, its cells and its BoardId.
+#![tactic(auto)]
+
 mod checking;
 pub mod features;
 pub mod find;

@@ -5,7 +5,7 @@ ghost use Rattle.message.specs.Cells.{words_cell};
 ghost use Rattle.reads.specs.Kept.{as_cell, lacking, carried_by};
 
 /// A row tried: its refusal, and the three numbers of its cell.
-#[derive(Drop)]
+#[derive(Clone, Copy)]
 pub struct Tried {
     pub refusal: u8,
     pub there: u64,

@@ -11,7 +11,7 @@ use rows::data::{NAMES, NUMBERS};
 use tags::attributes::PLACES;
 
 /// What stands behind the glue in front of an input, as message::Checked says, without what a message says.
-#[derive(Drop)]
+#[derive(Clone, Copy)]
 pub struct Outcome {
     pub refusal: u8,
     pub kind: u8,

@@ -1,9 +1,11 @@
 // What the Route of a BoardAvailable stands for.
+#![tactic(auto)]
+
 ghost use Rattle.std.specs.Prelude.{◌≡◌};
 ghost use Rattle.routes.specs.Classes.{class_of};
 
 /// The classes of a Route. specs/Classes.antt has the same numbers.
-#[derive(Drop)]
+#[derive(Clone, Copy)]
 pub struct RouteClass;
 
 impl RouteClass {

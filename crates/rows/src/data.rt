@@ -201,7 +201,7 @@ pub const KINDS: [u64; 13] = [
 ];
 
 /// A row of the table: its form, whether it may be missing, its limits, and the line and the length of its name.
-#[derive(Drop)]
+#[derive(Clone, Copy)]
 pub struct Row {
     pub form: u64,
     pub need: u64,
@@ -212,7 +212,7 @@ pub struct Row {
 }
 
 /// The rows of a kind: the first, and how many.
-#[derive(Drop)]
+#[derive(Clone, Copy)]
 pub struct Range {
     pub from: usize,
     pub count: usize,

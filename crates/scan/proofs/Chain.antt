@@ -1,16 +1,12 @@
 -- Chains of readers at positions: a failure is passed on, what was read leads to what is left.
 use mathlib.Core.Path.{◌≡◌, refl, ap, subst, ◌∙◌}
 use mathlib.Core.List.{[], ◌∷◌}
-use mathlib.Core.Logic.{⊎_elim}
 use Prim.Native.Nat.{ℕ, ◌+◌, ◌-◌, ◌≤◌}
 use native.Mathlib.Omega.{arith}
 use lib.ListN.{take, drop}
-use types.Run.{OneOf}
 use Rattle.exact.specs.Exact.{Out, done, more, bad}
 use Rattle.grammar.specs.Bytes.{Bytes}
 use Rattle.scan.specs.Pieces.{Got, GotTok, byte_p, word_p, glue_tok, chained, glued_p, end_tag_p}
-use denote.Enum.Declared.{tag_of, declared}
-use Rattle.scan.specs.contracts.Step.{enum}
 use Rattle.scan.specs.declared.Step.{Step}
 use Rattle.scan.specs.declared.Step.TheVariants.{Done, Open, Bad}
 
@@ -28,10 +24,10 @@ then_bad K e = ap (λ o. chained o K) e
 
 -- the answer is no Done
 abbrev pub Fails : Step → Type 0
-Fails r = OneOf (1 ∷ 2 ∷ []) (tag_of (declared enum) r)
+Fails r = (e : ℕ) → r ≡ Done e → ⊥
 
-pub never : {A : Type 0} → OneOf (1 ∷ 2 ∷ []) 0 → A
-never h = absurd (⊎_elim (λ (q : 0 ≡ 1). omega arith) (λ (q : 0 ≡ 2). omega arith) h)
+pub never : {A : Type 0} {e : ℕ} → Fails (Done e) → A
+never {A} {e} f = absurd (f e refl)
 
 pub tok : {k : ℕ} {s : Bytes} {at : ℕ} {r : Step} {o : Out Bytes} → GotTok k s at r o → Got k s at r o
 tok {k} {s} {at} {r} {o} g = go r g

@@ -1,4 +1,6 @@
 // The smallest readers: byte classes, glue, a byte, a fixed string, a name. Each says what the model at its place says.
+#![tactic(auto)]
+
 ghost use Rattle.std.specs.Prelude.{◌≡◌, ◌≤◌, length, drop};
 ghost use Rattle.grammar.specs.Glue.{is_glue};
 ghost use Rattle.grammar.specs.Name.{letter, name_start, name_byte};
@@ -7,7 +9,7 @@ ghost use Rattle.scan.specs.Pieces.{Skipped, Got, GotTok, byte_p, word_p, glue_t
 use grammar::Limits;
 
 /// The next place; the input ended inside; the first byte after which nothing fits.
-#[derive(Drop)]
+#[derive(Clone, Copy)]
 pub enum Step {
     Done(usize),
     Open,

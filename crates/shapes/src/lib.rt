@@ -1,4 +1,6 @@
 // Whether the decoded bytes of an attribute have the shape of a GUID or of a version.
+#![tactic(auto)]
+
 mod guid;
 mod version;
 

@@ -15,7 +15,7 @@ const ONE: u64 = 1_000_000;
 const PLACES: u64 = 6;
 
 // Digits behind the point: how many, and the number that they write.
-#[derive(Drop)]
+#[derive(Clone, Copy)]
 struct Part {
     k: u64,
     m: u64,

@@ -13,7 +13,7 @@ use message::values::Whole;
 use value::Words;
 
 /// The attributes of a CheckAlive, in table order.
-#[derive(Drop)]
+#[derive(Clone, Copy)]
 pub struct CheckAlive {
     pub ping: Whole,
     pub id: Words,

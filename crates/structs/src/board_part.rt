@@ -10,7 +10,7 @@ use message::values::{Measure, Whole};
 use value::Words;
 
 /// A board's attributes, in table order.
-#[derive(Drop)]
+#[derive(Clone, Copy)]
 pub struct Board {
     pub failed: Whole,
     pub product: Words,

@@ -14,7 +14,7 @@ use message::values::Whole;
 use value::{Guid, Words};
 
 /// The attributes of a BoardAvailable, in table order.
-#[derive(Drop)]
+#[derive(Clone, Copy)]
 pub struct BoardAvailable {
     pub id: Guid,
     pub by: Words,

@@ -14,7 +14,7 @@ use message::values::Measure;
 use value::{Guid, Words};
 
 /// The attributes of a BoardForecast, in table order.
-#[derive(Drop)]
+#[derive(Clone, Copy)]
 pub struct BoardForecast {
     pub forecast: Words,
     pub until: Measure,

@@ -1,4 +1,6 @@
 // The structs of the kinds: made of a message, and laid into one. Nothing is lost either way.
+#![tactic(auto)]
+
 mod alive;
 mod board_part;
 mod boards;

@@ -13,7 +13,7 @@ use message::values::Whole;
 use value::Words;
 
 /// The attributes of a Notification, in table order.
-#[derive(Drop)]
+#[derive(Clone, Copy)]
 pub struct Notification {
     pub code: Whole,
     pub severity: Whole,

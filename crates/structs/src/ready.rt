@@ -13,7 +13,7 @@ use message::values::Whole;
 use value::Words;
 
 /// The attributes of a MachineReady, in table order.
-#[derive(Drop)]
+#[derive(Clone, Copy)]
 pub struct MachineReady {
     pub failed: Whole,
     pub forecast: Words,

@@ -13,7 +13,7 @@ use message::values::{Features, Whole};
 use value::Words;
 
 /// The attributes of a ServiceDescription, in table order.
-#[derive(Drop)]
+#[derive(Clone, Copy)]
 pub struct ServiceDescription {
     pub machine: Words,
     pub lane: Whole,

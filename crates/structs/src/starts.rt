@@ -13,7 +13,7 @@ use message::values::Measure;
 use value::Guid;
 
 /// The attributes of a StartTransport, in table order.
-#[derive(Drop)]
+#[derive(Clone, Copy)]
 pub struct StartTransport {
     pub id: Guid,
     pub speed: Measure,

@@ -13,7 +13,7 @@ use message::values::Whole;
 use value::Guid;
 
 /// The attributes of both, in table order.
-#[derive(Drop)]
+#[derive(Clone, Copy)]
 pub struct Transfer {
     pub state: Whole,
     pub id: Guid,

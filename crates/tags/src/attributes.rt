@@ -19,7 +19,7 @@ pub const PLACES: usize = 4 * Limits::ATTRIBUTES;
 pub type Places = [u16; PLACES];
 
 /// A tag behind its name: whether it is an empty one, how many attributes it has, and where it ends.
-#[derive(Drop)]
+#[derive(Clone, Copy)]
 pub struct Tag {
     pub empty: bool,
     pub count: usize,
@@ -395,7 +395,7 @@ fn opened(s: &[u8], at: usize) -> Step
 }
 
 /// An attribute from its name on: where its name ends, where its raw value starts, and where it ends.
-#[derive(Drop)]
+#[derive(Clone, Copy)]
 pub struct Given {
     pub past: usize,
     pub value: usize,

@@ -1,7 +1,7 @@
 // The id of a value.
 
 /// An id; or none, and zeros.
-#[derive(Drop)]
+#[derive(Clone, Copy)]
 pub struct Guid {
     pub there: bool,
     pub bytes: [u8; 36],

@@ -1,21 +1,21 @@
 // A text of a message: where its raw value stands, and where the text is.
 
 /// A place in the message bytes.
-#[derive(Drop)]
+#[derive(Clone, Copy)]
 pub struct Span {
     pub start: usize,
     pub len: usize,
 }
 
 /// The raw value that an attribute has, if it has one.
-#[derive(Drop)]
+#[derive(Clone, Copy)]
 pub enum Words {
     Absent,
     Present(Span),
 }
 
 /// Where a text is: there in the message bytes; the first bytes of the scratch, so many; or refused.
-#[derive(Drop)]
+#[derive(Clone, Copy)]
 pub enum TextAt {
     InMessage(Span),
     InScratch(usize),

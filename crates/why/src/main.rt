@@ -1,5 +1,7 @@
 // Lists the messages of standard input, as the listing does; behind the line of a message that is refused stands a further one, which tells the row
 // that decided and where its value stands.
+#![tactic(auto)]
+
 ghost use Rattle.std.specs.Prelude.{◌+◌, ◌≤◌, length};
 ghost use Rattle.grammar.specs.Limits.{MESSAGE};
 ghost use Rattle.windows.specs.Held.{Held};
@@ -73,7 +75,7 @@ fn behind(buf: &[u8], out: &mut [u8], waiting: usize, w: Window, refusal: u8) ->
 }
 
 /// Where the program is: the window, how much of the output waits, whether the last line is in it, and whether all that does not wait was written.
-#[derive(Drop)]
+#[derive(Clone, Copy)]
 struct Place {
     window: Window,
     waiting: usize,

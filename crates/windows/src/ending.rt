@@ -5,7 +5,7 @@ ghost use Rattle.windows.specs.declared.ending.Ending.TheVariants.{Broken, Spent
 use crate::output::flush;
 
 /// With its last line; where reading or writing failed; or with its last turn.
-#[derive(Drop)]
+#[derive(Clone, Copy)]
 pub enum Ending {
     Whole,
     Broken,

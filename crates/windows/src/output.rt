@@ -58,7 +58,7 @@ pub fn end_line(out: &mut [u8], at: usize, base: u64, place: usize, answer: u8) 
 }
 
 /// How much waits, and whether what does not was written.
-#[derive(Drop)]
+#[derive(Clone, Copy)]
 pub struct Room {
     pub waiting: usize,
     pub written: bool,

@@ -8,7 +8,7 @@ use crate::window::{Window, dropped};
 use lines::Listed;
 
 /// Where the listing is: the window, how much of the output waits, whether the last line is in it; and the refusal of the message that was listed, 0 if none was.
-#[derive(Drop)]
+#[derive(Clone, Copy)]
 pub struct Stand {
     pub window: Window,
     pub waiting: usize,

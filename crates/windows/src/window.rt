@@ -7,7 +7,7 @@ use grammar::Limits;
 
 /// `base` bytes of the input stand before it. `last`: nothing was read behind it, since the input ends there, or since reading `failed`. `dry`: no
 /// message ends in it, so more is to be read.
-#[derive(Drop)]
+#[derive(Clone, Copy)]
 pub struct Window {
     pub base: u64,
     pub at: usize,
@@ -18,7 +18,7 @@ pub struct Window {
 }
 
 /// What reading brought: so many bytes, whether they are the last, and whether it failed.
-#[derive(Drop)]
+#[derive(Clone, Copy)]
 pub struct Got {
     pub count: usize,
     pub last: bool,

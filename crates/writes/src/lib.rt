@@ -1,4 +1,6 @@
 // Messages to be sent: refused and written by the rows of their kind.
+#![tactic(auto)]
+
 mod children;
 mod marks;
 mod messages;

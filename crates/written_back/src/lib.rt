@@ -1,4 +1,6 @@
 // What a received message is answered with: the Notification of a refusal, and the reply to a CheckAlive.
+#![tactic(auto)]
+
 mod alive;
 mod framed;
 mod notices;

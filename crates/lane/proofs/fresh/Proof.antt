@@ -4,7 +4,7 @@ use Rattle.lane.proofs.fresh.Statement.{statement}
 use Rattle.lane.proofs.fresh.Tie as tie
 
 returns : tie.Need-returns
-returns c = rw c.none.ensures
+returns c = rw c.none-forecast.ensures
 
-pub fresh-spec : {M : Type 1} → statement M
-fresh-spec = tie.close (tie.spec (λ c κs. search rules) returns)
+pub fresh_spec : {M : Type 1} → statement M
+fresh_spec = tie.close (tie.spec (λ c κs. search rules) returns)

@@ -4,7 +4,7 @@ use Rattle.lane.proofs.Lane.lost.Statement.{statement}
 use Rattle.lane.proofs.Lane.lost.Tie as tie
 
 returns : tie.Need-returns
-returns c = rw c.none.ensures
+returns c = rw c.none-forecast.ensures
 
-pub lost-spec : {M : Type 1} → statement M
-lost-spec = tie.close (tie.spec (λ c κs. search rules) returns)
+pub lost_spec : {M : Type 1} → statement M
+lost_spec = tie.close (tie.spec (λ c κs. search rules) returns)

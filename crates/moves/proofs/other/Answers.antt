@@ -1,0 +1,14 @@
+-- `other` is the definition's, by cases on the side.
+use borrow.Author.Tests.{ne_eqb}
+use Rattle.moves.proofs.other.Goals as goal
+
+-- `other` is the definition's, by cases on the side.
+pub returns-in-1 : goal.returns-in-1
+returns-in-1 c = rw c.in-1.is
+
+pub returns-in-2 : goal.returns-in-2
+returns-in-2 c = rw c.in-2.is
+
+pub returns-in_default : goal.returns-in_default
+returns-in_default c =
+    rw (ne_eqb c.args.side 1 c.in_default.in_default-own.rest.0.1, ne_eqb c.args.side 2 c.in_default.in_default-own.rest.1)
