@@ -4,7 +4,7 @@ use Rattle.numerals.specs.Ahead.{Runs}
 use Rattle.numerals.proofs.ahead.digit_run.Given as goal
 
 abbrev pub invariant-loop-i : goal.invariant-loop-i
-invariant-loop-i l = Runs l.v l.at l.n (record { l.n = l.m; end = l.i })
+invariant-loop-i l = Runs l.v l.at l.n (record { n = l.m; end = l.i })
 
 abbrev pub decreases-loop-i : goal.decreases-loop-i
 decreases-loop-i l = length l.v - l.i

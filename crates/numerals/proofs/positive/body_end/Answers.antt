@@ -17,4 +17,4 @@ unfolding body_end number_body_end body_decimals
 returns-in-Power c = known body_end c.in-Power.is c.power_end.ensures
 
 pub returns-in_default : goal.returns-in_default
-returns-in_default c = c.bad_number.ensures ∙ no_end _ c.in_default.in_default-own.keys4
+returns-in_default c = c.bad_number.ensures ∙ no_end _ c.in_default.not-Whole c.in_default.not-Part c.in_default.not-Power

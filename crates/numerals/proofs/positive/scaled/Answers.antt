@@ -11,4 +11,4 @@ pub returns-then-down-up : goal.returns-then-down-up
 returns-then-down-up c = c.limit.ensures ∙ ap (λ (x : Number). number_read x 0) (scaled_up c.args.n c.args.up c.args.down (omega arith) c.if-down-up.true)
 
 pub returns : goal.returns
-returns c = c.lowered.ensures ∙ ap (λ (x : Number). number_read x 0) (scaled_down c.args.n c.args.up c.args.down (omega arith) (let c.if-n-ge-TOP.false = c.if-down-up.false in omega arith))
+returns c = c.lowered.ensures ∙ ap (λ (x : Number). number_read x 0) (scaled_down c.args.n c.args.up c.args.down (omega arith) (omega arith))

@@ -12,7 +12,7 @@ returns-in-Start c = known (λ s. body_step s c.args.b) c.in-Start.is c.first_st
 
 pub returns-in-Signed : goal.returns-in-Signed
 unfolding body_step
-returns-in-Signed c = known (λ s. body_step s c.args.b) c.self.given.1 c.sign_step.ensures
+returns-in-Signed c = known (λ s. body_step s c.args.b) c.in-Signed.is c.sign_step.ensures
 
 pub returns-in-Whole : goal.returns-in-Whole
 unfolding body_step
