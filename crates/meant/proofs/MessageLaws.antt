@@ -18,7 +18,7 @@ use Rattle.table.specs.Says.{Result, values_of, has_attribute, rows_for, said_in
 use Rattle.message.specs.Fields.{Field}
 use Rattle.meant.specs.Meant.{meant_of, first_in, given_in, rows_with, meant_in, refused_in, refusal_by}
 use Rattle.meant.specs.Written.{element_of, element_by, rooted, name_of, written_in, written_by}
-use Rattle.meant.proofs.RowLaws.{is_name, good_rows, named as is_name}
+use Rattle.meant.proofs.RowLaws.{is_name, good_rows, named as named_is}
 use Rattle.meant.proofs.NeedLaws.{leaning, good_settled, settled_alike, given_written, rows_table, written_table}
 use Rattle.meant.proofs.ElementLaws.{no_filler, no_attributes}
 use Rattle.meant.proofs.BuildLaws.{ReadsBack, element_back}
@@ -50,7 +50,7 @@ kind_good by s k i =
     let h = kinds_in (good_kind by) by k s i in
     let j = and_right n (e && (r && l)) h in
     let z = and_right e (r && l) j in
-    record { name = is_name (name_in by k) (and_left n (e && (r && l)) h); known = eqb-true (kind_in by (name_in by k)) k (and_left e (r && l) j); rows = and_left r l z; leans = and_right r l z }
+    record { name = named_is (name_in by k) (and_left n (e && (r && l)) h); known = eqb-true (kind_in by (name_in by k)) k (and_left e (r && l) j); rows = and_left r l z; leans = and_right r l z }
 
 -- the root around an element
 abbrev root_of : Element → Root

@@ -1,7 +1,7 @@
 // The attribute table for code: the names, a line each, and a number for each row and each kind.
 ghost use Rattle.std.specs.Prelude.{◌≡◌, ◌+◌, ◌≤◌, ◌<◌};
 ghost use Rattle.table.specs.Table.{rows_of, guid_cell_in};
-ghost use Rattle.rows.specs.Coding.{numbers as coding, names as letters, coded_at, ROWS as MANY, LINES as LAST, NO_ID, RowsAt, name_at};
+ghost use Rattle.rows.specs.Coding.{numbers as coding, names as letters, coded_at, ROWS as MANY, LINES as LINE_COUNT, NO_ID, RowsAt, name_at};
 
 /// The first and the last kind.
 pub const FIRST: u8 = 1;
@@ -264,7 +264,7 @@ pub fn id_cell(kind: u8) -> usize
 
 /// The name that stands on that line.
 pub fn name_at(names: &[u8], line: usize, len: usize) -> &[u8]
-    requires { (names.now ≡ letters) × (line < LAST) × (len ≤ 24) }
+    requires { (names.now ≡ letters) × (line < LINE_COUNT) × (len ≤ 24) }
     ensures { result.now ≡ name_at line len }
 {
     let from = line * WIDTH;
