@@ -1,20 +1,16 @@
-use Rattle.std.proofs.Common.{rules, ◌≡◌, ℕ, ◌+◌, ◌-◌, ◌*◌, ◌<◌, ◌≤◌, length, ◌/◌, ◌%◌, Bool, true, false, nat_eq, nat_lt, List, [], ◌∷◌, ◌++◌, slice_index_or, slice_set, bit_and, bit_or, Fits, w8, w32, w64, Bor, MutBor}
-use Rattle.printing.specs.Put.{Wrote, Countable}
-use Rattle.number.specs.Digits.{last_digit, print_int, places}
+use Rattle.std.proofs.Common.{arith}
+use Rattle.printing.specs.Writes.{wrote_none, ◌then◌}
+use Rattle.number.proofs.DigitLaws.{places_none, places_more, places_length}
 use Rattle.printing.proofs.digits.+put_places.Goals as goal
 
--- src/digits.rt:32:9
 pub returns-then-k-eq0 : goal.returns-then-k-eq0
-returns-then-k-eq0 t c = ?
+returns-then-k-eq0 t c = rw (places_none _ _ c.if-k-eq0.true) (wrote_none _ _)
 
--- src/digits.rt:34:9
 pub put_places-mid-requires : goal.put_places-mid-requires
-put_places-mid-requires t c = ?
+put_places-mid-requires t c = (omega arith, omega (arith, places_length c.args.k c.args.n c.if-k-eq0.false, c.requires))
 
--- src/digits.rt:35:5
 pub put_byte-requires : goal.put_byte-requires
-put_byte-requires t c = ?
+put_byte-requires t c = omega (arith, places_length c.args.k c.args.n c.if-k-eq0.false, c.requires, c.put_places-mid.ensures.next)
 
--- src/digits.rt:27:1
 pub returns : goal.returns
-returns t c = ?
+returns t c = rw (places_more _ _ c.if-k-eq0.false, ← c.last_digit.ensures) (c.put_places-mid.ensures then c.put_byte.ensures)

@@ -1,0 +1,15 @@
+-- The invariant: m in k digits is n in six, but for zeros at the back, and k is at least what is wanted.
+use Rattle.spelling.proofs.DecimalLaws.{cutting_start, cutting_more, cutting_kept, cutting_end}
+use Rattle.spells.proofs.numbers.cut.Goals as goal
+
+pub loop-k-init : goal.loop-k-init
+loop-k-init c = cutting_start c.args.n c.args.least c.requires
+
+pub returns-then-m-ne0 : goal.returns-then-m-ne0
+returns-then-m-ne0 c = (c.loop-k.invariant.most, cutting_kept c.loop-k.k c.loop-k.invariant c.loop-k-test.true c.if-m-ne0.true)
+
+pub loop-k-preserved : goal.loop-k-preserved
+loop-k-preserved c = cutting_more c.loop-k.k c.loop-k.invariant c.loop-k-test.true c.if-m-ne0.false
+
+pub returns : goal.returns
+returns c = (c.loop-k.invariant.most, cutting_end c.loop-k.invariant c.loop-k-test.false)
