@@ -17,7 +17,7 @@ use Rattle.decodes.specs.Decoded.{LengthCase, LengthSays, Put, PutInRoom, Decode
 use Rattle.decodes.specs.declared.decode.Length.{Length}
 use Rattle.decodes.specs.declared.decode.Length.TheVariants.{Is, Not}
 use Rattle.value.proofs.Theorems.{loose_one}
-use Rattle.pieces.proofs.Answers.{Fails}
+use Rattle.pieces.proofs.Answers.{Fails, never}
 use Rattle.pieces.specs.declared.Piece.{Piece}
 use Rattle.pieces.specs.declared.Piece.TheVariants.{Got, Open, Bad}
 
@@ -27,7 +27,7 @@ taken {s} {at} q g = subst (λ (r : Piece). UnitCase s at r) q g.says
 
 -- no step: what stands there is no items
 pub untaken : {s : Bytes} {at : ℕ} (r : Piece) → Fails r → UnitSays s at r → (l : List Item) → Loose (drop at s) l → ⊥
-untaken (Got c e) f g = absurd (⊎_elim (λ (q : 0 ≡ 1). omega arith) (λ (q : 0 ≡ 2). omega arith) f)
+untaken (Got c e) f g = never f
 untaken Open f g = g.says
 untaken (Bad p) f g = g.says
 

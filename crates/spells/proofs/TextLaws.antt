@@ -19,7 +19,7 @@ use Rattle.model.specs.Characters.{plain_byte, char_p}
 use Rattle.model.specs.Tests.{and_left, and_right, and_both}
 use Rattle.pieces.specs.Says.{Known, Says}
 use Rattle.pieces.specs.Parts.{Plain}
-use Rattle.pieces.proofs.Answers.{Fails, moved}
+use Rattle.pieces.proofs.Answers.{never, Fails, moved}
 use Rattle.pieces.specs.declared.Piece.{Piece}
 use Rattle.pieces.specs.declared.Piece.TheVariants.{Got, Open, Bad}
 use Rattle.spelling.specs.Characters.{spell, IsText, TextSays, no_ban}
@@ -94,6 +94,6 @@ pub along_fail : {v : Bytes} {i : ℕ} → Along v i → i < length v → {r : P
 along_fail {v} {i} a h {r} f g = record { sound = λ e. clash (sym e); complete = λ t. absurd (go r f g (first (left v i h) (a.to t))) }
   where
     go : (r : Piece) → Fails r → Says (λ (c : ℕ). c) 1 v i r (char_p no_ban (drop i v)) → (c : ℕ) × (l : List ℕ) × (char_p no_ban (drop i v) ≡ done c (spell l)) × (every is_char l ≡ true) → ⊥
-    go (Got c e) f g x = ⊎_elim (λ (q : 0 ≡ 1). omega arith) (λ (q : 0 ≡ 2). omega arith) f
+    go (Got c e) f g x = never f
     go Open f g (c, l, q, k) = done≢more q g.says
     go (Bad p) f g (c, l, q, k) = done≢bad q g.says.reads
