@@ -1,0 +1,40 @@
+-- Field by field.
+use mathlib.Core.Path.{◌≡◌, refl}
+use mathlib.Core.List.{[]}
+use lib.Dec.{lit≤}
+use Rattle.grammar.specs.Bytes.{Bytes}
+use Rattle.lane.specs.Names.{BoardAvailable}
+use Rattle.table.specs.Table.{table, rows_of}
+use Rattle.message.specs.Cells.{fields_from, field_by, words_by, whole_by, measure_by, guid_by}
+use Rattle.structs.specs.BoardPart.{part_from, part_at}
+use Rattle.structs.specs.Celled.{zeros}
+use Rattle.structs.specs.Boards.{board_from}
+use Rattle.structs.proofs.KindLaws.{made_of}
+use Rattle.structs.proofs.boards.board_available.Goals as goal
+
+-- Field by field.
+-- of zeros as of no fields
+none : (id : Bytes) → board_from (fields_from (rows_of BoardAvailable) 0 zeros id) ≡ board_from []
+unfolding table board_from part_from fields_from field_by words_by whole_by measure_by guid_by
+none id = refl
+
+pub returns : goal.returns
+unfolding table board_from part_from part_at fields_from field_by
+returns c =
+    rw (c.guid.ensures, c.words.ensures, c.board_at.ensures, c.whole.ensures, c.words-2.ensures)
+    (made_of board_from BoardAvailable c.args.m none c.cells_if-cells.ensures)
+
+pub guid-requires : goal.guid-requires
+guid-requires c = lit≤ tt
+
+pub words-requires : goal.words-requires
+words-requires c = lit≤ tt
+
+pub board_at-requires : goal.board_at-requires
+board_at-requires c = lit≤ tt
+
+pub whole-requires : goal.whole-requires
+whole-requires c = lit≤ tt
+
+pub words-requires-2 : goal.words-requires-2
+words-requires-2 c = lit≤ tt
