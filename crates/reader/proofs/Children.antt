@@ -72,7 +72,7 @@ module _ (s : Bytes) (at : ℕ) (r : Child) where
   absent q n = record { found = λ z. clash (sym z ∙ ap (λ (c : Child). c.found) q); none = λ z. (q, n) }
 
   pub child_out : length s < at → r ≡ no_child → NextChild s at r
-  child_out h q = absent q (fails_none {s = s} {at = at} {r = Open} (inl refl) (record { says = let k : length s ≤ at = omega arith in ap next_p (drop_of_length-le s k) ∙ next_open }))
+  child_out h q = absent q (fails_none {s = s} {at = at} {r = Open} (λ e q. absurd (let z : Open ≡ Done e = q in cc)) (record { says = let k : length s ≤ at = omega arith in ap next_p (drop_of_length-le s k) ∙ next_open }))
 
   pub child_bare : {x : Step} → Fails x → GotFiller below_root s at x → r ≡ no_child → NextChild s at r
   child_bare f g q = absent q (fails_none f (pass f g.says 1 at (omega arith) _ (next_bind (drop at s))))
