@@ -49,18 +49,18 @@ answers_of (p ∷ l) g = Ends (length p.glue) (length p.glue + length p.bytes) �
 
 -- "and the library finds it where each message keeps the limit": the whole cut, message by message, to the last glue
 pub cut_found_whole : {s g : Bytes} {l : List Piece} {rs : List Answer} → Cut s l g → EachFits l → InTurn s rs → rs ≡ answers_of l g
-cut_found_whole {l = []} c f (reads_on start end p t) = let e = cut_found c f (Ends start end) p in absurd (let z : ◌≡◌ {A = ℕ} 0 1 = cc in omega arith)
-cut_found_whole {l = []} c f (waits start p) = ap (λ (a : Answer). a ∷ []) (cut_found c f (More start) p)
-cut_found_whole {l = []} c f (stops start place p) = ap (λ (a : Answer). a ∷ []) (cut_found c f (Malformed start place) p)
-cut_found_whole {l = []} c f (gives_up start p) = ap (λ (a : Answer). a ∷ []) (cut_found c f (TooLong start) p)
+cut_found_whole {s} {g} {l = []} c f (reads_on start end p t) = let e = cut_found c f (Ends start end) p in absurd (let z : ◌≡◌ {A = ℕ} 0 1 = cc in omega arith)
+cut_found_whole {s} {g} {l = []} c f (waits start p) = ap (λ (a : Answer). a ∷ []) (cut_found c f (More start) p)
+cut_found_whole {s} {g} {l = []} c f (stops start place p) = ap (λ (a : Answer). a ∷ []) (cut_found c f (Malformed start place) p)
+cut_found_whole {s} {g} {l = []} c f (gives_up start p) = ap (λ (a : Answer). a ∷ []) (cut_found c f (TooLong start) p)
 cut_found_whole {s} {g} {l = q ∷ l} c (fits_piece h j) (reads_on {l = rs} start end p t) =
-    go (cut_found c (fits_piece h j) (Ends start end) p) (λ n k. cut_found_whole k j (subst (λ (m : ℕ). InTurn (drop m s) rs) n t))
+    go (cut_found c (fits_piece h j) (Ends start end) p) (λ n k. cut_found_whole {s = drop (length q.glue + length q.bytes) s} {g = g} {l = l} {rs = rs} k j (subst (λ (m : ℕ). InTurn (drop m s) rs) n t))
   where
     go : Finds s (q ∷ l) g (Ends start end) → (end ≡ length q.glue + length q.bytes → Cut (drop (length q.glue + length q.bytes) s) l g → rs ≡ answers_of l g) → Ends start end ∷ rs ≡ answers_of (q ∷ l) g
     go (e, k) f = let n : end ≡ length q.glue + length q.bytes = cc in let i = f n k in cc
-cut_found_whole {l = q ∷ l} c f (waits start p) = let e = (cut_found c f (More start) p).0 in absurd (let z : ◌≡◌ {A = ℕ} 0 1 = cc in omega arith)
-cut_found_whole {l = q ∷ l} c f (stops start place p) = let e = (cut_found c f (Malformed start place) p).0 in absurd (let z : ◌≡◌ {A = ℕ} 0 1 = cc in omega arith)
-cut_found_whole {l = q ∷ l} c f (gives_up start p) = let e = (cut_found c f (TooLong start) p).0 in absurd (let z : ◌≡◌ {A = ℕ} 0 1 = cc in omega arith)
+cut_found_whole {s} {g} {l = q ∷ l} c f (waits start p) = let e = (cut_found c f (More start) p).0 in absurd (let z : ◌≡◌ {A = ℕ} 0 1 = cc in omega arith)
+cut_found_whole {s} {g} {l = q ∷ l} c f (stops start place p) = let e = (cut_found c f (Malformed start place) p).0 in absurd (let z : ◌≡◌ {A = ℕ} 0 1 = cc in omega arith)
+cut_found_whole {s} {g} {l = q ∷ l} c f (gives_up start p) = let e = (cut_found c f (TooLong start) p).0 in absurd (let z : ◌≡◌ {A = ℕ} 0 1 = cc in omega arith)
 
 -- what is read in turn ends at glue alone
 abbrev pub EndsInGlue : Bytes → List Answer → Type 0

@@ -11,7 +11,7 @@ pub returns-in_default : goal.returns-in_default
 returns-in_default c = inner_fails child_of lead _ _ _ _ c.without.ensures c.in_default.not-Done (message_fails _ _ c.in_default.not-Done c.byte-r.ensures)
 
 pub returns-then-s-a : goal.returns-then-s-a
-returns-then-s-a c = inner_fails child_of lead _ _ _ _ c.without-then-s-a.ensures (inl refl) (message_open _ _ _ (known c.in-Done.is c.byte-r.ensures) c.if-s-a.true)
+returns-then-s-a c = inner_fails child_of lead _ _ _ _ c.without-then-s-a.ensures (λ e q. cc) (message_open _ _ _ (known c.in-Done.is c.byte-r.ensures) c.if-s-a.true)
 
 pub returns-then-s-a-eq63 : goal.returns-then-s-a-eq63
 returns-then-s-a-eq63 c = message-declared _ _ _ (known c.in-Done.is c.byte-r.ensures) c.if-s-a.false c.if-s-a-eq63.true c.declared.ensures
