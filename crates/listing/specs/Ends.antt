@@ -5,7 +5,7 @@ use Rattle.exact.specs.Chain.{clash}
 use Rattle.grammar.specs.Bytes.{Bytes}
 use Rattle.number.proofs.Tests.{cases}
 use Rattle.lines.specs.Step.{ListStep}
-use Rattle.lines.specs.Theorems.{line_within}
+use Rattle.lines.proofs.Theorems.{line_within}
 use Rattle.lines.specs.declared.Listed.{Listed}
 use Rattle.lines.specs.declared.Listed.TheVariants.{Line, Drop, End}
 use Rattle.windows.specs.Held.{bytes_of, next, ends}

@@ -11,7 +11,7 @@ use Rattle.lines.specs.Text.{line_text, last_text, lines_text, listing_text}
 use Rattle.lines.specs.Step.{ListStep}
 use Rattle.lines.specs.Runs.{Run}
 use Rattle.lines.specs.Unique.{line_moves}
-use Rattle.lines.specs.Theorems.{line_within, drop_within, start_within, end_within, list_exact}
+use Rattle.lines.proofs.Theorems.{line_within, drop_within, start_within, end_within, list_exact}
 use Rattle.lines.specs.declared.Listed.{Listed}
 use Rattle.lines.specs.declared.Listed.TheVariants.{Line, Drop, End}
 use Rattle.windows.specs.Held.{bytes_of, without, next, ends}

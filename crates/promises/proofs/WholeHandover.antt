@@ -93,9 +93,6 @@ all_go x (from_d y ∷ ys) (p ∷ ps) (h, hs) (m, w, e) =
 abbrev new : Line
 new = record { event = record { kind = Unknown; id = no_id; carries = false; forecast = no_forecast }; state = NotConnected; offered = no_id; running = no_id; forecast = no_forecast_case; order = NoOrder }
 
-led : {s : ℕ} {x y : Line} → sent (lane_at s x) y.event ≡ record { refusal = 0; lane = lane_at s y; order = y.order } → (received (lane_at (other s) x) y.event).lane ≡ lane_at (other s) y → Leads s x y
-led a b = record { sends = a; takes = b }
-
 -- the start, on both sides
 both : ℕ → Bytes → Lane
 both side id = record { side = side; state = Both; offered = id; running = no_id; forecast = no_forecast }
@@ -115,7 +112,7 @@ handover_leads : (id : Bytes) → AllLead new (handover id)
 unfolding sent received next by_rows chart righted both start
 handover_leads id =
     let e = same_refl id in
-    (led refl refl, (led refl refl, (led refl refl, (led refl refl, (led (start_sends id) (ap (λ (v : Moved). v.lane) (start_takes id)), (led (rw e refl) (rw e refl), (led (rw e refl) (rw e refl), tt)))))))
+    (record { sends = refl; takes = refl }, (record { sends = refl; takes = refl }, (record { sends = refl; takes = refl }, (record { sends = refl; takes = refl }, (record { sends = start_sends id; takes = ap (λ (v : Moved). v.lane) (start_takes id) }, (record { sends = rw e refl; takes = rw e refl }, (record { sends = rw e refl; takes = rw e refl }, tt)))))))
 
 -- from two new lanes each of the seven messages is accepted by both sides; the belt runs on both sides at StartTransport, and only there; both lanes end in Idle without an id
 pub whole_handover : (id : Bytes) (ps : List Passing) → Exchanges (fresh U) (fresh D) (handover id) ps → AllGo (handover id) ps
@@ -155,7 +152,7 @@ changeover_leads : (id announced forecast : Bytes) → AllLead new (changeover i
 unfolding sent received next by_rows chart righted both start told idle asked ready
 changeover_leads id announced forecast =
     let e = same_refl id in
-    (led refl refl, (led refl refl, (led refl refl, (led (ready_sends forecast) (ready_takes forecast), (led refl refl, (led (start_sends id) (ap (λ (v : Moved). v.lane) (start_takes id)), (led (rw e refl) (rw e refl), (led (rw e refl) (rw e refl), tt))))))))
+    (record { sends = refl; takes = refl }, (record { sends = refl; takes = refl }, (record { sends = refl; takes = refl }, (record { sends = ready_sends forecast; takes = ready_takes forecast }, (record { sends = refl; takes = refl }, (record { sends = start_sends id; takes = ap (λ (v : Moved). v.lane) (start_takes id) }, (record { sends = rw e refl; takes = rw e refl }, (record { sends = rw e refl; takes = rw e refl }, tt))))))))
 
 -- and with a changeover before it: the forecast changes neither state nor BoardIds nor the belt; the downstream lane keeps its id, and MachineReady with that id clears it
 pub whole_changeover : (id announced forecast : Bytes) (ps : List Passing) → Exchanges (fresh U) (fresh D) (changeover id announced forecast) ps → AllGo (changeover id announced forecast) ps

@@ -5,7 +5,7 @@ use Rattle.grammar.specs.Bytes.{Bytes}
 use Rattle.grammar.specs.Limits.{MESSAGE}
 use Rattle.printing.specs.Writes.{wrote_none}
 use Rattle.lines.specs.Step.{ListStep}
-use Rattle.lines.specs.Theorems.{line_within, drop_within, drop_leaves}
+use Rattle.lines.proofs.Theorems.{line_within, drop_within, drop_leaves}
 use Rattle.lines.specs.declared.Listed.{Listed}
 use Rattle.lines.specs.declared.Listed.TheVariants.{Line, Drop, End}
 use Rattle.windows.specs.Held.{Held, bytes_of, without, next, ends, refuses, Turned}

@@ -16,7 +16,7 @@ use Rattle.lines.specs.Step.{Shows, ListStep}
 use Rattle.lines.specs.Refusals.{Refusal, refusal_is}
 use Rattle.lines.specs.Runs.{Run, run_read, run_line, run_drop, run_end}
 use Rattle.lines.specs.Unique.{end_line_one, line_or_end, first_line_one, lists_same, lists_some, line_moves}
-use Rattle.lines.specs.Windows.{line_more, end_more, lists_glue}
+use Rattle.lines.proofs.Windows.{line_more, end_more, lists_glue}
 use Rattle.lines.specs.declared.Listed.{Listed}
 use Rattle.lines.specs.declared.Listed.TheVariants.{Line, Drop, End}
 
