@@ -6,8 +6,7 @@ ghost use Rattle.c_promises.specs.Lanes.{lane_of, Lent};
 use lane::{Forecast, Lane};
 
 /// A new lane of the upstream machine.
-#[unsafe(no_mangle)]
-pub extern "C" fn tryphomel_upstream(
+pub fn tryphomel_upstream(
     side: &mut u8,
     state: &mut u8,
     offered: &mut [u8; 36],
@@ -31,8 +30,7 @@ pub extern "C" fn tryphomel_upstream(
 }
 
 /// A new lane of the downstream machine.
-#[unsafe(no_mangle)]
-pub extern "C" fn tryphomel_downstream(
+pub fn tryphomel_downstream(
     side: &mut u8,
     state: &mut u8,
     offered: &mut [u8; 36],
@@ -56,8 +54,7 @@ pub extern "C" fn tryphomel_downstream(
 }
 
 /// The lane after its connection was lost.
-#[unsafe(no_mangle)]
-pub extern "C" fn tryphomel_lost(
+pub fn tryphomel_lost(
     side: u8,
     state: &mut u8,
     offered: &mut [u8; 36],

@@ -5,8 +5,7 @@ ghost use Rattle.routes.specs.Classes.{class_of};
 use routes::route_class;
 
 /// The class of a Route. Every number has one.
-#[unsafe(no_mangle)]
-pub extern "C" fn tryphomel_route_class(route: u64) -> u8
+pub fn tryphomel_route_class(route: u64) -> u8
     ensures { result ≡ class_of route }
 {
     route_class(route)

@@ -7,8 +7,7 @@ use value::TextAt;
 /// The text of the raw value that stands at `start`, `len` bytes long, or is absent if `there` is 0. It returns the refusal.
 /// On 0 `place` is 1 if the text is the `count` bytes of `bytes` from `at` on, and 2 if it is the first `count` bytes of
 /// `scratch`; on a refusal all three are 0.
-#[unsafe(no_mangle)]
-pub extern "C" fn tryphomel_text(
+pub fn tryphomel_text(
     bytes: &[u8],
     there: u8,
     start: u64,

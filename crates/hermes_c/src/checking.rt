@@ -5,8 +5,7 @@ use message::cells::NUMBERS;
 
 /// What the message behind the glue says: the refusal; the message's kind, its cells and its BoardId; where it starts and ends; and the place that is
 /// malformed. What there is none of is 0.
-#[unsafe(no_mangle)]
-pub extern "C" fn tryphomel_check(
+pub fn tryphomel_check(
     bytes: &[u8],
     kind: &mut u64,
     cells: &mut [u64; NUMBERS],

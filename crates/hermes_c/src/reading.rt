@@ -5,8 +5,7 @@ use reader::answer::Answer;
 
 /// What stands behind the glue in front of the bytes: the answer's number; where it starts, glue dropped; and the end of a
 /// message or the place that is malformed, else 0.
-#[unsafe(no_mangle)]
-pub extern "C" fn tryphomel_read(bytes: &[u8], start: &mut u64, place: &mut u64) -> u8
+pub fn tryphomel_read(bytes: &[u8], start: &mut u64, place: &mut u64) -> u8
     ensures { Told bytes.now result start.new place.new }
 {
     let answer = reader::read(bytes);

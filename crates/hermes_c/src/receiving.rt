@@ -8,8 +8,7 @@ use message::cells::NUMBERS;
 /// Receives the message that stands first in the bytes, behind glue: checks it, moves the lane, and writes the Notification of a refusal or the
 /// reply to a CheckAlive first into the buffer. Answers the refusal; the belt order; how many of the bytes are used, and how many of the buffer
 /// are written; the place of a malformed byte; and an accepted message's kind, cells and BoardId.
-#[unsafe(no_mangle)]
-pub extern "C" fn tryphomel_receive(
+pub fn tryphomel_receive(
     side: u8,
     state: &mut u8,
     offered: &mut [u8; 36],

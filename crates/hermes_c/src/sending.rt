@@ -8,8 +8,7 @@ use message::cells::NUMBERS;
 
 /// Sends the message of this kind, these cells and this BoardId, whose texts are parts of `texts`: it stands first in the buffer, and the lane is moved.
 /// Every refusal keeps both. Answers the refusal; the belt order; and how many bytes of the buffer are written.
-#[unsafe(no_mangle)]
-pub extern "C" fn tryphomel_send(
+pub fn tryphomel_send(
     side: u8,
     state: &mut u8,
     offered: &mut [u8; 36],

@@ -1,0 +1,11 @@
+// Which version of the library this is, for C.
+ghost use Rattle.std.specs.Prelude.{◌≡◌};
+ghost use Rattle.c_promises.specs.Versions.{VERSION};
+
+/// The version of the library: its first number times 10,000, its second times 100, and its third.
+#[unsafe(no_mangle)]
+pub extern "C" fn tryphomel_version() -> u64
+    ensures { result ≡ VERSION }
+{
+    c_lanes::tryphomel_version()
+}
