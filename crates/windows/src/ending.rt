@@ -14,29 +14,29 @@ pub enum Ending {
 }
 
 /// With the last line: what waits, the first `at` bytes, is handed out.
-pub fn ended(out: &[u8], at: usize) -> Ending
+pub fn ended(rt: &impl Print, out: &[u8], at: usize) -> Ending
     requires { at ≤ length out.now }
     ensures result_nonzero { result ≢ Broken }
     ensures result_nonzero_2 { result ≢ Spent }
 {
-    if flush(out, at) {
+    if flush(rt, out, at) {
         return Ending::Whole;
     }
     Ending::Unwritten
 }
 
 /// Says on standard error what is not the end of the input.
-pub fn tell(ending: Ending) {
+pub fn tell(rt: &impl Eprint, ending: Ending) {
     match ending {
         Ending::Whole => {}
         Ending::Broken => {
-            io::write_all(libc::STDERR_FILENO, b"the input can't be read on\n");
+            let _ = rt.eprintln("the input can't be read on");
         }
         Ending::Unwritten => {
-            io::write_all(libc::STDERR_FILENO, b"the lines can't be written\n");
+            let _ = rt.eprintln("the lines can't be written");
         }
         Ending::Spent => {
-            io::write_all(libc::STDERR_FILENO, b"the input is too long\n");
+            let _ = rt.eprintln("the input is too long");
         }
     }
 }

@@ -65,18 +65,18 @@ pub struct Room {
 }
 
 /// Hands the first `at` bytes to the system: whether it took them all.
-pub fn flush(out: &[u8], at: usize) -> bool
+pub fn flush(rt: &impl Print, out: &[u8], at: usize) -> bool
     requires { at ≤ length out.now }
 {
-    io::write_all(libc::STDOUT_FILENO, &out[..at])
+    rt.write_all(&out[..at]).is_ok()
 }
 
 // All of it is handed out.
-fn emptied(out: &[u8], at: usize) -> Room
+fn emptied(rt: &impl Print, out: &[u8], at: usize) -> Room
     requires { at ≤ length out.now }
     ensures { result.waiting ≡ 0 }
 {
-    let written = flush(out, at);
+    let written = flush(rt, out, at);
     Room {
         waiting: 0,
         written: written,
@@ -95,7 +95,7 @@ fn most(size: usize, dry: bool) -> usize
 }
 
 /// Hands out what waits, the first `at` bytes, if more of the input may be waited for, or if there is no room behind it for a further line.
-pub fn made_room(out: &[u8], at: usize, dry: bool) -> Room
+pub fn made_room(rt: &impl Print, out: &[u8], at: usize, dry: bool) -> Room
     requires at_in_bounds { at ≤ length out.now }
     requires in_bounds { LINE ≤ length out.now }
     ensures { result.waiting ≡ left dry (length out.now) at }
@@ -106,5 +106,5 @@ pub fn made_room(out: &[u8], at: usize, dry: bool) -> Room
             written: true,
         };
     }
-    emptied(out, at)
+    emptied(rt, out, at)
 }

@@ -4,6 +4,7 @@ ghost use Rattle.grammar.specs.Limits.{MESSAGE};
 ghost use Rattle.windows.specs.Held.{has_end, Filled, fresh, Held, ToppedUp, without};
 
 use grammar::Limits;
+use std::io::Read;
 
 /// `base` bytes of the input stand before it. `last`: nothing was read behind it, since the input ends there, or since reading `failed`. `dry`: no
 /// message ends in it, so more is to be read.
@@ -40,17 +41,22 @@ pub fn opened() -> Window
 }
 
 // One read behind the first len bytes: how many came. None come where the input ends or the read fails.
-fn read_behind(buf: &mut [u8], len: usize) -> Got
+fn read_behind(input: &mut impl Read, buf: &mut [u8], len: usize) -> Got
     requires { len ≤ length buf.old }
     ensures count_in_bounds { len + result.count ≤ length buf.new }
     ensures buf_unchanged { take len buf.new ≡ take len buf.old }
 {
-    let got = libc::read(libc::STDIN_FILENO, &mut buf[len..]);
-    let count = io::count(got, &buf[len..]);
-    Got {
-        count: count,
-        last: count == 0,
-        failed: got < 0,
+    match input.read(&mut buf[len..]) {
+        Ok(count) => Got {
+            count: count,
+            last: count == 0,
+            failed: false,
+        },
+        Err(_) => Got {
+            count: 0,
+            last: true,
+            failed: true,
+        },
     }
 }
 
@@ -70,14 +76,14 @@ fn has_end(s: &[u8]) -> bool
 
 // Reads behind the first `from` bytes until a `>` has come, the size of a message is held, the input ends or a read fails: how many bytes are in it
 // then. No message ends in those that were there, so without a `>` none does, and to ask after each read would cost the square of the length.
-fn fill(buf: &mut [u8], from: usize) -> Got
+fn fill(input: &mut impl Read, buf: &mut [u8], from: usize) -> Got
     requires from_bound { from < MESSAGE }
     requires in_bounds { MESSAGE ≤ length buf.old }
     ensures { Filled from buf.old buf.new result }
 {
     let mut len = from;
     while len < Limits::MESSAGE {
-        let got = read_behind(&mut *buf, len);
+        let got = read_behind(&mut *input, &mut *buf, len);
         if got.count == 0 {
             return Got {
                 count: len,
@@ -115,7 +121,7 @@ fn move_to_front(buf: &mut [u8], from: usize, n: usize)
 }
 
 /// Where no message ends in the window, reads on: until one may end in it, or the input ends.
-pub fn topped_up(buf: &mut [u8], w: Window) -> Window
+pub fn topped_up(input: &mut impl Read, buf: &mut [u8], w: Window) -> Window
     requires held { Held w (length buf.old) }
     requires in_bounds { MESSAGE ≤ length buf.old }
     ensures { ToppedUp w buf.old result buf.new }
@@ -126,7 +132,7 @@ pub fn topped_up(buf: &mut [u8], w: Window) -> Window
     }
     if w.dry {
         move_to_front(&mut *buf, w.at, n);
-        let got = fill(&mut *buf, n);
+        let got = fill(&mut *input, &mut *buf, n);
         return Window {
             base: w.base,
             at: 0,
