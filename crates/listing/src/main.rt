@@ -8,6 +8,7 @@ ghost use Rattle.windows.specs.Printed.{LINE};
 ghost use Rattle.listing.specs.Turns.{Ended, Stopped, Unended};
 ghost use Rattle.windows.specs.declared.ending.Ending.TheVariants.{Whole, Broken, Spent};
 
+use std::io::Read;
 use windows::ending::{Ending, ended, tell};
 use windows::output::made_room;
 use windows::turn::turn;
@@ -16,7 +17,7 @@ use windows::window::{opened, topped_up};
 // Nothing says that the input ends, and a proved loop does: the turns are counted down from a number that only an input of 2^63 bytes uses up.
 // What waits is handed out before a turn that reads, since a read may have to wait. Where reading fails there is no last line: it would say that the input
 // ends there. A write that fails is no end either.
-fn list(buf: &mut [u8], out: &mut [u8]) -> Ending
+fn list(rt: &impl Print, input: &mut impl Read, buf: &mut [u8], out: &mut [u8]) -> Ending
     requires in_bounds { MESSAGE ≤ length buf.old }
     requires in_bounds_2 { LINE ≤ length out.old }
     ensures ended { result ≡ Whole → Ended out.new }
@@ -27,11 +28,11 @@ fn list(buf: &mut [u8], out: &mut [u8]) -> Ending
     let mut waiting: usize = 0;
     let mut turns = u64::MAX;
     while 0 < turns {
-        let room = made_room(&*out, waiting, w.dry);
+        let room = made_room(rt, &*out, waiting, w.dry);
         if !room.written {
             return Ending::Unwritten;
         }
-        w = topped_up(&mut *buf, w);
+        w = topped_up(&mut *input, &mut *buf, w);
         if w.failed {
             return Ending::Broken;
         }
@@ -39,16 +40,17 @@ fn list(buf: &mut [u8], out: &mut [u8]) -> Ending
         w = stand.window;
         waiting = stand.waiting;
         if stand.done {
-            return ended(&*out, waiting);
+            return ended(rt, &*out, waiting);
         }
         turns -= 1;
     }
     Ending::Spent
 }
 
-fn main() {
+fn main(rt: HostRuntime) {
     let mut buf = [0u8; 131072];
     let mut out = [0u8; 65536];
-    let ending = list(&mut buf, &mut out);
-    tell(ending);
+    let mut input = rt.reader();
+    let ending = list(&rt, &mut input, &mut buf, &mut out);
+    tell(&rt, ending);
 }

@@ -10,6 +10,7 @@ ghost use Rattle.why.specs.Reason.{reason_text, why_text, Explained, Behind, Ste
 
 use decides::{Decision, decided};
 use printing::put;
+use std::io::Read;
 use value::Words;
 use windows::ending::{Ending, ended, tell};
 use windows::output::{Room, counted, made_room, put_column};
@@ -54,7 +55,14 @@ fn explained(buf: &[u8], out: &mut [u8], waiting: usize, w: Window) -> usize
 }
 
 // Behind the line of a message that is refused by that number: how much waits then.
-fn behind(buf: &[u8], out: &mut [u8], waiting: usize, w: Window, refusal: u8) -> Room
+fn behind(
+    rt: &impl Print,
+    buf: &[u8],
+    out: &mut [u8],
+    waiting: usize,
+    w: Window,
+    refusal: u8,
+) -> Room
     requires held { Held w (length buf.now) }
     requires waiting_in_bounds { waiting ≤ length out.old }
     requires in_bounds { LINE ≤ length out.old }
@@ -66,7 +74,7 @@ fn behind(buf: &[u8], out: &mut [u8], waiting: usize, w: Window, refusal: u8) ->
             written: true,
         };
     }
-    let room = made_room(&*out, waiting, false);
+    let room = made_room(rt, &*out, waiting, false);
     let put = explained(buf, out, room.waiting, w);
     Room {
         waiting: put,
@@ -84,14 +92,14 @@ struct Place {
 }
 
 // A turn of the listing, and what is behind its line.
-fn step(buf: &[u8], out: &mut [u8], waiting: usize, w: Window) -> Place
+fn step(rt: &impl Print, buf: &[u8], out: &mut [u8], waiting: usize, w: Window) -> Place
     requires held { Held w (length buf.now) }
     requires waiting_in_bounds { waiting + LINE ≤ length out.old }
     ensures { Stepped buf.now w out.old waiting out.new result }
 {
     let stand = turn(buf, &mut *out, waiting, w);
     let window = stand.window;
-    let room = behind(buf, &mut *out, stand.waiting, w, stand.refusal);
+    let room = behind(rt, buf, &mut *out, stand.waiting, w, stand.refusal);
     Place {
         window: window,
         waiting: room.waiting,
@@ -101,7 +109,7 @@ fn step(buf: &[u8], out: &mut [u8], waiting: usize, w: Window) -> Place
 }
 
 // Turn by turn as `list` of the listing, and a line more where a message is refused.
-fn explain(buf: &mut [u8], out: &mut [u8]) -> Ending
+fn explain(rt: &impl Print, input: &mut impl Read, buf: &mut [u8], out: &mut [u8]) -> Ending
     requires in_bounds { MESSAGE ≤ length buf.old }
     requires in_bounds_2 { LINE ≤ length out.old }
 {
@@ -109,31 +117,32 @@ fn explain(buf: &mut [u8], out: &mut [u8]) -> Ending
     let mut waiting: usize = 0;
     let mut turns = u64::MAX;
     while 0 < turns {
-        let room = made_room(&*out, waiting, w.dry);
+        let room = made_room(rt, &*out, waiting, w.dry);
         if !room.written {
             return Ending::Unwritten;
         }
-        w = topped_up(&mut *buf, w);
+        w = topped_up(&mut *input, &mut *buf, w);
         if w.failed {
             return Ending::Broken;
         }
-        let s = step(&*buf, &mut *out, room.waiting, w);
+        let s = step(rt, &*buf, &mut *out, room.waiting, w);
         w = s.window;
         waiting = s.waiting;
         if !s.written {
             return Ending::Unwritten;
         }
         if s.done {
-            return ended(&*out, waiting);
+            return ended(rt, &*out, waiting);
         }
         turns -= 1;
     }
     Ending::Spent
 }
 
-fn main() {
+fn main(rt: HostRuntime) {
     let mut buf = [0u8; 131072];
     let mut out = [0u8; 65536];
-    let ending = explain(&mut buf, &mut out);
-    tell(ending);
+    let mut input = rt.reader();
+    let ending = explain(&rt, &mut input, &mut buf, &mut out);
+    tell(&rt, ending);
 }
