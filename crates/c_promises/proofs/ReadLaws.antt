@@ -3,7 +3,7 @@ use mathlib.Core.Path.{◌≡◌, refl, sym, ap, ◌∙◌}
 use Prim.Native.Nat.{ℕ}
 use Rattle.grammar.specs.Bytes.{Bytes}
 use Rattle.grammar.specs.Answer.{Answer, Answers, answer_number}
-use Rattle.model.specs.Theorems.{answers_only}
+use Rattle.model.proofs.Theorems.{answers_only}
 use Rattle.c_promises.specs.Reading.{start_of, place_of, Told}
 
 pub told : (s : Bytes) (a : Answer) → Answers s a → Told s (answer_number a) (start_of a) (place_of a)

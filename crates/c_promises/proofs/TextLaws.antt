@@ -3,7 +3,7 @@ use mathlib.Core.Path.{◌≡◌, refl, sym, ap, subst, ◌∙◌}
 use Prim.Native.Nat.{ℕ}
 use Rattle.grammar.specs.Bytes.{Bytes}
 use Rattle.value.specs.Asking.{Told, paper, TextSays}
-use Rattle.value.specs.Only.{says_only}
+use Rattle.value.proofs.Only.{says_only}
 use Rattle.value.specs.declared.text.Words.{Words}
 use Rattle.value.specs.declared.text.TextAt.{TextAt}
 use Rattle.message.specs.Cells.{words_by}

@@ -9,8 +9,8 @@ use Rattle.grammar.specs.Bytes.{Bytes}
 use Rattle.grammar.specs.Tree.{Tree}
 use Rattle.grammar.specs.Message.{Layout, Laid, read_layout}
 use Rattle.grammar.specs.Answer.{Ends, Answer as PaperAnswer, Answers, ends_at, more_from, malformed_at, too_long_from}
-use Rattle.model.specs.Cuts.{piece_behind}
-use Rattle.model.specs.Theorems.{one_layout, answers_only}
+use Rattle.model.proofs.Cuts.{piece_behind}
+use Rattle.model.proofs.Theorems.{one_layout, answers_only}
 use Rattle.value.specs.declared.text.Words.{Words}
 use Rattle.table.specs.Table.{Row, Entry}
 use Rattle.table.specs.Says.{refusal_in, tried, first, refusal_of, child_of, rows_for, said_in}

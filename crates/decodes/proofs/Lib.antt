@@ -1,3 +1,4 @@
+pub mod Plain
 pub mod UnitLaws
 pub mod Utf8Laws
 pub mod DecodeLaws

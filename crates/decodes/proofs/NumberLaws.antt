@@ -14,7 +14,8 @@ use Rattle.numerals.proofs.Theorems.{scanned_on}
 use Rattle.pieces.proofs.Answers.{Fails}
 use Rattle.pieces.specs.declared.Piece.{Piece}
 use Rattle.decodes.specs.Walk.{Taken, Walked, walked_start, walked_step, walked_end, walked_fail}
-use Rattle.decodes.specs.Plain.{plain, plain_reads}
+use Rattle.decodes.specs.Plain.{plain}
+use Rattle.decodes.proofs.Plain.{plain_reads}
 use Rattle.decodes.specs.Units.{UnitSays}
 use Rattle.value.specs.Numbers.{Reads, read, unread}
 use Rattle.decodes.specs.Walked.{WalkCase, WalkSays}

@@ -14,11 +14,13 @@ use Rattle.grammar.specs.Bytes.{Bytes}
 use Rattle.grammar.specs.Value.{Item, read_value}
 use Rattle.value.specs.Text.{Text, as_read}
 use Rattle.value.specs.Quotes.{lacks}
-use Rattle.value.specs.Loose.{Loose, text_loose, loose_text}
+use Rattle.value.specs.Loose.{Loose}
+use Rattle.value.proofs.Loose.{text_loose, loose_text}
 use Rattle.decodes.specs.Decoded.{LengthSays, Decoded}
 use Rattle.value.specs.Asking.{in_scratch, Told, handed, paper, Answer, no_value, stands, no_room_case, decoded, TextSays, absent, outside, there}
-use Rattle.value.specs.AsRead.{raw_as_read_iff}
-use Rattle.decodes.specs.Plain.{plain, plain_reads}
+use Rattle.value.proofs.AsRead.{raw_as_read_iff}
+use Rattle.decodes.specs.Plain.{plain}
+use Rattle.decodes.proofs.Plain.{plain_reads}
 use Rattle.decodes.specs.declared.decode.Length.{Length}
 use Rattle.decodes.specs.declared.decode.Length.TheVariants.{Not}
 use Rattle.value.specs.declared.text.Span.{Span}

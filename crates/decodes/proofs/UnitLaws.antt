@@ -9,7 +9,8 @@ use lib.ListN.{length, drop, get_or, length-drop, length-append, drop_of_length-
 use lib.Dec.{eqb}
 use lib.Seq.{drop-cons}
 use borrow.Author.Tests.{ne_eqb}
-use Rattle.model.specs.Characters.{char_p, plain_byte, char_max}
+use Rattle.model.specs.Characters.{char_p, plain_byte}
+use Rattle.model.proofs.Characters.{char_max}
 use Rattle.model.specs.Values.{item_p}
 use Rattle.exact.specs.Exact.{Out, done, more, bad, sound, done≢more, done≢bad}
 use Rattle.exact.specs.Byte.{eqb-true}
@@ -18,9 +19,10 @@ use Rattle.grammar.specs.Bytes.{Bytes, within}
 use Rattle.grammar.specs.Character.{is_char, utf8}
 use Rattle.grammar.specs.Reference.{Named, amp, lt, gt, quot, apos, good_named, good_decimal, good_hexadecimal, read_named}
 use Rattle.grammar.specs.Value.{Item, raw, ref, spell_item, spell_value, banned, GoodItem, good_raw, good_ref, good_last, good_item, feeds, read_item, read_value}
-use Rattle.value.specs.AsRead.{reference_longer, reads_itself}
-use Rattle.value.specs.Quotes.{Bytes8, ascii, beyond, bytes8}
-use Rattle.value.specs.Loose.{item_exact, BRACKET, Loose, loose_first}
+use Rattle.value.proofs.AsRead.{reference_longer, reads_itself}
+use Rattle.value.proofs.Quotes.{Bytes8, ascii, beyond, bytes8}
+use Rattle.value.specs.Loose.{BRACKET, Loose}
+use Rattle.value.proofs.Loose.{item_exact, loose_first}
 use Rattle.decodes.specs.Walk.{Taken}
 use Rattle.decodes.specs.Units.{UnitSays}
 use Rattle.pieces.specs.Parts.{code_point}

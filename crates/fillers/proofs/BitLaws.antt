@@ -20,10 +20,12 @@ use Rattle.grammar.specs.Comment.{Mark}
 use Rattle.grammar.specs.Filler.{Site, in_root, below_root, in_text, comment, Filler, brackets, stopper}
 use Rattle.model.specs.Tests.{and_left, and_right}
 use Rattle.model.specs.Characters.{plain_byte, char_p}
-use Rattle.model.specs.Values.{item_p, item_exact}
-use Rattle.model.specs.Glue.{glue_low}
+use Rattle.model.specs.Values.{item_p}
+use Rattle.model.proofs.Values.{item_exact}
+use Rattle.model.proofs.Glue.{glue_low}
 use Rattle.model.specs.Comments.{comment_p}
-use Rattle.model.specs.Fillers.{text_p, stopper_stops, FillAcc, added, ended, text_turn, markup_p, bit_p, bits_eq}
+use Rattle.model.specs.Fillers.{text_p, FillAcc, added, ended, text_turn, markup_p, bit_p}
+use Rattle.model.proofs.Fillers.{stopper_stops, bits_eq}
 use Rattle.scan.specs.Pieces.{Skipped}
 use Rattle.pieces.proofs.CharacterLaws.{plain_other, text_low}
 use Rattle.fillers.specs.Fills.{PlainRun, bits_p, calmly}

@@ -20,7 +20,8 @@ use Rattle.grammar.specs.Comment.{Mark, mark, dash_mark}
 use Rattle.grammar.specs.Value.{banned}
 use Rattle.model.specs.Tests.{and_left}
 use Rattle.model.specs.Characters.{plain_byte, char_p}
-use Rattle.model.specs.Comments.{is_dash, no_dash_p, MarkAcc, dash_p, mark_p, marks_p, marks_eq, comment_p}
+use Rattle.model.specs.Comments.{is_dash, no_dash_p, MarkAcc, dash_p, mark_p, marks_p, comment_p}
+use Rattle.model.proofs.Comments.{marks_eq}
 use Rattle.scan.specs.Pieces.{Got as StepSays, byte_p, word_p, chained}
 use Rattle.scan.specs.Unfold.{then_and}
 use Rattle.scan.proofs.Chain.{then_done, Fails as StepFails, pass as step-pass, last as step-last, moved as step-moved}

@@ -1,9 +1,8 @@
 -- The bench cases P11 and P12, cases of records that we never write, and those of order 3, as rows of tables that compute.
-use Rattle.std.specs.Prelude.{◌≡◌, refl, List, [], ◌∷◌, ◌++◌, true, false, ℕ, replicate}
+use Rattle.std.specs.Prelude.{List, [], ◌∷◌, ◌++◌, true, false, ℕ, replicate}
 use Rattle.lane.specs.Names.{U, D, NotConnected, DescribedDown, Idle, Offered, Ready, Both, Transporting, Stopped, Finished, ServiceDescription, BoardAvailable, RevokeBoardAvailable, MachineReady, StartTransport, StopTransport, CheckAlive, BoardForecast, NoOrder, Cancel, StopNow, Accepted, MayNotBeSent, ProtocolError}
-use Rattle.lane.specs.Chart.{pick, next, by_rows, chart}
-use Rattle.lane.specs.Record.{same_id, no_id, no_forecast, righted, fresh, offered_used, running_used, received, sent}
-use Rattle.lane.specs.StepForStep.{gets, sends, final}
+use Rattle.lane.specs.Chart.{pick}
+use Rattle.lane.specs.Record.{no_id, no_forecast, fresh, offered_used, running_used, received, sent}
 use Rattle.lane.specs.declared.Event.{Event}
 use Rattle.lane.specs.declared.Lane.{Lane}
 use Rattle.lane.specs.declared.Moved.{Moved}
@@ -31,7 +30,7 @@ abbrev pub event : ℕ → List ℕ → Event
 event kind id = record { kind = kind; id = id; carries = false; forecast = no_forecast }
 
 -- two ids
-abbrev a : List ℕ
+abbrev pub a : List ℕ
 a = replicate 36 97
 
 abbrev b : List ℕ
@@ -65,7 +64,7 @@ bench =
 abbrev forecast : ℕ → List ℕ → Forecast
 forecast n bytes = record { length = n; bytes = bytes }
 
-abbrev p : Forecast
+abbrev pub p : Forecast
 p = forecast 5 (replicate 5 112 ++ replicate 75 0)
 
 abbrev q : Forecast
@@ -87,14 +86,14 @@ abbrev over : Forecast
 over = forecast 81 (replicate 80 112)
 
 -- a message with a ForecastId, and one without, whatever stands in its place
-abbrev carrying : ℕ → Forecast → Event
+abbrev pub carrying : ℕ → Forecast → Event
 carrying kind f = record { kind = kind; id = no_id; carries = true; forecast = f }
 
-abbrev bare : ℕ → Event
+abbrev pub bare : ℕ → Event
 bare kind = record { kind = kind; id = no_id; carries = false; forecast = p }
 
 -- a lane of either side, with the ids that its state uses
-abbrev down : ℕ → Forecast → Lane
+abbrev pub down : ℕ → Forecast → Lane
 down s f = keeping f D s (pick (offered_used s) a no_id) (pick (running_used s) a no_id)
 
 abbrev up : ℕ → Forecast → Lane
@@ -175,17 +174,3 @@ answers (c ∷ cs) = c.answer ∷ answers cs
 abbrev pub wanted : List Case → List Moved
 wanted [] = []
 wanted (c ∷ cs) = c.wanted ∷ wanted cs
-
-pub bench_holds : answers bench ≡ wanted bench
-unfolding bench received sent same_id righted next by_rows chart
-bench_holds = refl
-
-pub forecasts_hold : answers forecasts ≡ wanted forecasts
-unfolding forecasts received sent same_id righted next by_rows chart
-forecasts_hold = refl
-
--- "it may cross a StartTransport after a revoke": the running id stays, and the transport goes on
-pub crossing :
-    final (down Both no_forecast) (sends (event StartTransport a) ∷ gets (bare RevokeBoardAvailable) ∷ gets (carrying BoardForecast p) ∷ []) ≡ down Transporting p
-unfolding received sent same_id righted next by_rows chart
-crossing = refl

@@ -4,7 +4,7 @@ pub mod Names
 pub mod Chart
 pub mod Ids
 pub mod Record
--- Theorems about it:
+-- What the theorems about it speak of; they stand in proofs/, each in the file of the same name:
 pub mod ChartExact
 pub mod StepForStep
 pub mod IdsZero
@@ -13,11 +13,4 @@ pub mod Orders
 pub mod Free
 pub mod Forecasts
 pub mod LastForecast
-pub mod UpstreamNone
 pub mod Bench
-pub mod Examples
-pub mod Only
--- For proofs only:
-pub mod Laws
-pub mod IdLaws
-pub mod OrderLaws

@@ -7,15 +7,15 @@ use Rattle.exact.specs.Chain.{clash}
 use Rattle.grammar.specs.Bytes.{Bytes}
 use Rattle.grammar.specs.Limits.{MESSAGE}
 use Rattle.grammar.specs.Answer.{Behind, more_from, Answers}
-use Rattle.model.specs.Answers.{behind_one}
-use Rattle.model.specs.Theorems.{answers_only}
+use Rattle.model.proofs.Answers.{behind_one}
+use Rattle.model.proofs.Theorems.{answers_only}
 use Rattle.table.specs.Table.{table}
 use Rattle.table.specs.Says.{rows_for, child_of, said_of}
 use Rattle.lines.specs.Lines.{MessageLine, LastLine, FirstLine, EndLine, unfinished, malformed, too_long, Lists, list_end, list_line, Listing}
 use Rattle.lines.specs.Step.{Shows, ListStep}
 use Rattle.lines.specs.Refusals.{Refusal, refusal_is}
 use Rattle.lines.specs.Runs.{Run, run_read, run_line, run_drop, run_end}
-use Rattle.lines.specs.Unique.{end_line_one, line_or_end, first_line_one, lists_same, lists_some, line_moves}
+use Rattle.lines.proofs.Unique.{end_line_one, line_or_end, first_line_one, lists_same, lists_some, line_moves}
 use Rattle.lines.proofs.Windows.{line_more, end_more, lists_glue}
 use Rattle.lines.specs.declared.Listed.{Listed}
 use Rattle.lines.specs.declared.Listed.TheVariants.{Line, Drop, End}

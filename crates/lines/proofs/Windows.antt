@@ -6,8 +6,8 @@ use Rattle.grammar.specs.Bytes.{Bytes, every}
 use Rattle.grammar.specs.Glue.{is_glue, Glue}
 use Rattle.grammar.specs.Answer.{leads, Behind, Malformed, TooLong, more_from, malformed_at, too_long_from, Answers}
 use Rattle.model.specs.Tests.{and_left, and_right, and_both}
-use Rattle.model.specs.Answers.{longest_dead, dead_longest}
-use Rattle.model.specs.Cuts.{piece_behind}
+use Rattle.model.proofs.Answers.{longest_dead, dead_longest}
+use Rattle.model.proofs.Cuts.{piece_behind}
 use Rattle.lines.specs.Lines.{MessageLine, LastLine, FirstLine, EndLine, unfinished, malformed, too_long, line_from, last_from, Lists, list_end, list_line}
 
 -- bytes added behind leave the glue as it is, where a byte stands behind it

@@ -4,4 +4,3 @@ pub mod Examples
 pub mod Step
 pub mod Refusals
 pub mod Runs
-pub mod Unique

@@ -1,1 +1,3 @@
+pub mod Prints
+pub mod Ends
 pub mod ListLaws

@@ -1,4 +1,3 @@
 pub mod Turns
 pub mod Theorems
 pub mod Prints
-pub mod Ends

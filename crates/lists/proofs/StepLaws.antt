@@ -10,7 +10,7 @@ use Rattle.grammar.specs.Bytes.{Bytes}
 use Rattle.grammar.specs.Tree.{Tree}
 use Rattle.grammar.specs.Message.{Layout, Laid, read_layout}
 use Rattle.grammar.specs.Answer.{Ends, Answers, more_from, malformed_at, too_long_from}
-use Rattle.model.specs.Theorems.{one_reading}
+use Rattle.model.proofs.Theorems.{one_reading}
 use Rattle.table.specs.Table.{table}
 use Rattle.table.specs.Says.{rows_for, child_of, said_of}
 use Rattle.reads.specs.Whole.{CellsChecked, ends, more, malformed, too_long}

@@ -7,7 +7,7 @@ use native.Mathlib.Omega.{arith}
 use lib.ListN.{take, drop}
 use Rattle.grammar.specs.Bytes.{Bytes, text, same}
 use Rattle.value.specs.Text.{Text}
-use Rattle.value.specs.Quotes.{text_one}
+use Rattle.value.proofs.Quotes.{text_one}
 use Rattle.value.specs.declared.text.Span.{Span}
 use Rattle.value.specs.declared.text.Words.{Words}
 use Rattle.value.specs.declared.text.Words.TheVariants.{Absent as NoWords, Present as IsWords}

@@ -11,7 +11,7 @@ use Rattle.grammar.specs.Bytes.{Bytes, within}
 use Rattle.grammar.specs.Tree.{Tree}
 use Rattle.grammar.specs.Message.{Message as IsMessage}
 use Rattle.value.specs.Text.{Text}
-use Rattle.value.specs.Quotes.{text_one}
+use Rattle.value.proofs.Quotes.{text_one}
 use Rattle.value.specs.declared.text.Span.{Span}
 use Rattle.value.specs.declared.text.Words.{Words}
 use Rattle.value.specs.declared.text.Words.TheVariants.{Absent as NoWords, Present as IsWords}

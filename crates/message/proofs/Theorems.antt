@@ -11,7 +11,7 @@ use Rattle.grammar.specs.Bytes.{Bytes}
 use Rattle.grammar.specs.Tree.{Tree}
 use Rattle.grammar.specs.Message.{Layout, Laid, read_layout}
 use Rattle.grammar.specs.Answer.{Answer as PaperAnswer, Answers, ends_at, more_from, malformed_at, too_long_from}
-use Rattle.model.specs.Theorems.{one_layout, one_reading, answers_only}
+use Rattle.model.proofs.Theorems.{one_layout, one_reading, answers_only}
 use Rattle.table.specs.Table.{Entry}
 use Rattle.value.specs.Ids.{no_id}
 use Rattle.value.specs.declared.text.Words.{Words}

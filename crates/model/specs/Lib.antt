@@ -1,4 +1,5 @@
--- The model of a reader of the grammar, nonterminal by nonterminal, each proved exact; then what follows.
+-- The model of a reader of the grammar, nonterminal by nonterminal. The theorems about it stand in proofs/, each in the file of the same name,
+-- but for laws of tests and of lists, and where the parts of a message stand.
 pub mod Tests
 pub mod Characters
 pub mod References
@@ -15,8 +16,6 @@ pub mod Messages
 pub mod Answers
 pub mod Cuts
 pub mod Completions
-pub mod MadeOfBytes
 pub mod Standing
-pub mod Theorems
 pub mod Bench
 pub mod Remarks

@@ -7,7 +7,7 @@ use native.Mathlib.Decide.{ℕ_discrete}
 use lib.Dec.{T, eqb}
 use borrow.Author.Tests.{eq-eqb, ne_eqb}
 use Rattle.lane.specs.Chart.{pick, both, either, among, Row, chart, by_rows}
-use Rattle.lane.specs.Laws.{both_parts}
+use Rattle.lane.proofs.Laws.{both_parts}
 use Rattle.moves.specs.Entry.{IsEntry, lets}
 use Rattle.moves.specs.declared.chart.Entry.{Entry}
 use Rattle.moves.specs.declared.chart.Entry.TheVariants.{From, ReceivedFrom, Nothing}

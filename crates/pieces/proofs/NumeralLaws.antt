@@ -11,8 +11,9 @@ use lib.Seq.{drop-cons}
 use lib.Dec.{eqb, leb}
 use borrow.Author.Tests.{le-leb, lt-leb, eq-eqb, ne_eqb}
 use Rattle.model.specs.Tests.{and_false, range_in, every_append, every_snoc}
-use Rattle.model.specs.Characters.{View, control, low, mid, high, view, char_low, char_mid, char_high, char_max}
-use Rattle.model.specs.References.{alive, Alive, now, soon, later, alive_view, number_append, begun, okay, number_p, dec_digit, hex_digit_lem}
+use Rattle.model.proofs.Characters.{View, control, low, mid, high, view, char_low, char_mid, char_high, char_max}
+use Rattle.model.specs.References.{alive, begun, okay, number_p}
+use Rattle.model.proofs.References.{Alive, now, soon, later, alive_view, number_append, dec_digit, hex_digit_lem}
 use Rattle.exact.specs.Exact.{Out, bad, Reader}
 use Rattle.exact.specs.Chain.{clash}
 use Rattle.exact.specs.Byte.{pick, lit_p}

@@ -11,9 +11,11 @@ use lib.Seq.{drop-cons}
 use lib.Dec.{eqb, leb, ltb}
 use borrow.Author.Tests.{leb-true, le-leb, eq-eqb, ne_eqb, not-true, eqb-false}
 use Rattle.model.specs.Tests.{and_left, and_right}
-use Rattle.model.specs.Characters.{low, high, char_low, plain_byte, char_p}
+use Rattle.model.specs.Characters.{plain_byte, char_p}
+use Rattle.model.proofs.Characters.{low, high, char_low}
 use Rattle.model.specs.References.{ref_p}
-use Rattle.model.specs.Values.{Acc, item_p, quote_is, turn_p, value_p, value_eq}
+use Rattle.model.specs.Values.{Acc, item_p, turn_p, value_p}
+use Rattle.model.proofs.Values.{quote_is, value_eq}
 use Rattle.exact.specs.Exact.{Out, done, more, bad}
 use Rattle.exact.specs.Chain.{ret_p, and_then, clash}
 use Rattle.exact.specs.Byte.{eqb-true}

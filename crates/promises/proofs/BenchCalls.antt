@@ -9,15 +9,17 @@ use Rattle.grammar.specs.Bytes.{Bytes, text}
 use Rattle.grammar.specs.Limits.{MESSAGE}
 use Rattle.grammar.specs.Message.{Message as IsMessage}
 use Rattle.grammar.specs.Answer.{Answer, Answers, ends_at, more_from, malformed_at, too_long_from}
-use Rattle.model.specs.Messages.{message_p, message_exact}
-use Rattle.model.specs.Answers.{answered}
-use Rattle.model.specs.Theorems.{answers_only}
+use Rattle.model.specs.Messages.{message_p}
+use Rattle.model.proofs.Messages.{message_exact}
+use Rattle.model.proofs.Answers.{answered}
+use Rattle.model.proofs.Theorems.{answers_only}
 use Rattle.number.specs.Whole.{int_of, capped, paper as int_paper}
 use Rattle.number.specs.Positive.{Number, number_of, decimals_of, number_read}
 use Rattle.number.specs.declared.whole.WholeRead.{WholeRead}
 use Rattle.number.specs.declared.positive.NumberRead.{NumberRead}
 use Rattle.lane.specs.Record.{blank, received}
-use Rattle.lane.specs.Free.{passed, check_alive_received, unknown_received}
+use Rattle.lane.specs.Free.{passed}
+use Rattle.lane.proofs.Free.{check_alive_received, unknown_received}
 use Rattle.lane.specs.declared.Event.{Event}
 use Rattle.lane.specs.declared.Lane.{Lane}
 use Rattle.lane.specs.declared.Moved.{Moved}

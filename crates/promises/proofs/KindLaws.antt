@@ -8,7 +8,7 @@ use lib.Dec.{eqb}
 use borrow.Author.Tests.{eqb-true}
 use Rattle.lane.specs.Chart.{is_free, Sent as IsSent, chart, next}
 use Rattle.lane.specs.Record.{carries_own, step_out, sent}
-use Rattle.lane.specs.Laws.{by_rows_lem, is_true, next_cases, sent_by}
+use Rattle.lane.proofs.Laws.{by_rows_lem, is_true, next_cases, sent_by}
 use Rattle.lane.specs.declared.Lane.{Lane}
 use Rattle.lane.specs.declared.Moved.{Moved}
 use Rattle.lane.specs.declared.chart.Step.{Step}

@@ -13,7 +13,7 @@ use Rattle.grammar.specs.Bytes.{Bytes, text}
 use Rattle.lane.specs.Names.{U, D}
 use Rattle.lane.specs.Chart.{is_free, may_name, Received as IsReceived, Sent as IsSent, chart, by_rows, next}
 use Rattle.lane.specs.Record.{fresh, carries_own, other, step_in, step_out, received, sent}
-use Rattle.lane.specs.Laws.{by_rows_lem, received_by_lem, sent_by}
+use Rattle.lane.proofs.Laws.{by_rows_lem, received_by_lem, sent_by}
 use Rattle.lane.specs.declared.Event.{Event}
 use Rattle.lane.specs.declared.Lane.{Lane}
 use Rattle.lane.specs.declared.Moved.{Moved}

@@ -14,9 +14,11 @@ use Rattle.grammar.specs.Bytes.{Bytes}
 use Rattle.lane.specs.Names.{U, D, Ready, Both, StartTransport, StopTransport, TransportFinished, NoOrder, Run, Cancel, StopNow}
 use Rattle.lane.specs.Chart.{among}
 use Rattle.lane.specs.Record.{running_used, ended, received}
-use Rattle.lane.specs.Belt.{started, start_run, start_cancel_ready, start_cancel_other, foreign_stop}
-use Rattle.lane.specs.Orders.{StartsOwn, StartsOther, order_run_received, order_cancel_received, order_stop_ended, order_stop_received, order_run_sent, order_sent_else}
-use Rattle.lane.specs.OrderLaws.{end_not}
+use Rattle.lane.specs.Belt.{started}
+use Rattle.lane.proofs.Belt.{start_run, start_cancel_ready, start_cancel_other, foreign_stop}
+use Rattle.lane.specs.Orders.{StartsOwn, StartsOther}
+use Rattle.lane.proofs.Orders.{order_run_received, order_cancel_received, order_stop_ended, order_stop_received, order_run_sent, order_sent_else}
+use Rattle.lane.proofs.OrderLaws.{end_not}
 use Rattle.lane.specs.declared.Event.{Event}
 use Rattle.lane.specs.declared.Lane.{Lane}
 use Rattle.lane.specs.declared.Moved.{Moved}

@@ -15,7 +15,7 @@ use Rattle.grammar.specs.Tree.{Pair, Tree, tree}
 use Rattle.model.specs.Tests.{same_true}
 use Rattle.spelling.specs.Decided.{is_text}
 use Rattle.value.specs.Ids.{no_id}
-use Rattle.value.specs.Quotes.{text_one}
+use Rattle.value.proofs.Quotes.{text_one}
 use Rattle.value.specs.declared.id.Guid.{Guid}
 use Rattle.value.specs.declared.text.Span.{Span}
 use Rattle.value.specs.declared.text.Words.{Words}

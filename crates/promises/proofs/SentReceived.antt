@@ -14,8 +14,8 @@ use Rattle.grammar.specs.Limits.{MESSAGE}
 use Rattle.grammar.specs.Tree.{Tree}
 use Rattle.grammar.specs.Message.{Message as IsMessage, read_layout}
 use Rattle.grammar.specs.Answer.{Answers, ends_at, more_from, malformed_at, too_long_from}
-use Rattle.model.specs.Cuts.{piece_behind}
-use Rattle.model.specs.Theorems.{one_reading, answers_only}
+use Rattle.model.proofs.Cuts.{piece_behind}
+use Rattle.model.proofs.Theorems.{one_reading, answers_only}
 use Rattle.lane.specs.declared.Lane.{Lane}
 use Rattle.value.specs.declared.text.Words.{Words}
 use Rattle.table.specs.Table.{Row, is_kind, rows_of}

@@ -13,8 +13,9 @@ use Rattle.grammar.specs.Bytes.{Bytes}
 use Rattle.lane.specs.Names.{ProtocolError}
 use Rattle.lane.specs.Chart.{among, Received as IsReceived}
 use Rattle.lane.specs.Record.{blank, step_in, step_out, received}
-use Rattle.lane.specs.Laws.{received_by_lem, sent_by}
-use Rattle.lane.specs.StepForStep.{gets, sends as puts, charted, Follows as ByChart}
+use Rattle.lane.proofs.Laws.{received_by_lem, sent_by}
+use Rattle.lane.specs.StepForStep.{gets, sends as puts, Follows as ByChart}
+use Rattle.lane.proofs.StepForStep.{charted}
 use Rattle.lane.specs.declared.Event.{Event}
 use Rattle.lane.specs.declared.Lane.{Lane}
 use Rattle.lane.specs.declared.Moved.{Moved}

@@ -12,11 +12,11 @@ use Rattle.grammar.specs.Bytes.{Bytes, text}
 use Rattle.grammar.specs.Tree.{Pair, Tree}
 use Rattle.grammar.specs.Message.{Laid, Message as IsMessage}
 use Rattle.grammar.specs.Answer.{Answers, ends_at}
-use Rattle.model.specs.Theorems.{one_reading, tail_free}
+use Rattle.model.proofs.Theorems.{one_reading, tail_free}
 use Rattle.lane.specs.declared.Event.{Event}
 use Rattle.lane.specs.declared.Lane.{Lane}
 use Rattle.value.specs.Text.{Text}
-use Rattle.value.specs.Quotes.{text_one}
+use Rattle.value.proofs.Quotes.{text_one}
 use Rattle.value.specs.declared.text.Span.{Span}
 use Rattle.value.specs.declared.text.Words.{Words}
 use Rattle.value.specs.declared.text.Words.TheVariants.{Absent as NoWords, Present as IsWords}

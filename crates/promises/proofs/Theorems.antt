@@ -16,8 +16,9 @@ use Rattle.number.proofs.Tests.{cases}
 use Rattle.lane.specs.Names.{NoOrder}
 use Rattle.lane.specs.Chart.{either, among}
 use Rattle.lane.specs.Record.{ended, kept as kept_moved, step_in, received}
-use Rattle.lane.specs.Laws.{received_by_lem}
-use Rattle.lane.specs.IdsZero.{IdsZero, lost_ids_zero, received_ids_zero, sent_ids_zero}
+use Rattle.lane.proofs.Laws.{received_by_lem}
+use Rattle.lane.specs.IdsZero.{IdsZero}
+use Rattle.lane.proofs.IdsZero.{lost_ids_zero, received_ids_zero, sent_ids_zero}
 use Rattle.lane.specs.declared.Event.{Event}
 use Rattle.lane.specs.declared.Lane.{Lane}
 use Rattle.lane.specs.declared.Moved.{Moved}

@@ -12,7 +12,7 @@ use Rattle.number.proofs.Tests.{cases}
 use Rattle.grammar.specs.Bytes.{Bytes}
 use Rattle.grammar.specs.Message.{Laid}
 use Rattle.grammar.specs.Answer.{Answer, Answers, ends_at, more_from, malformed_at, too_long_from}
-use Rattle.model.specs.Theorems.{answers_total}
+use Rattle.model.proofs.Theorems.{answers_total}
 use Rattle.lane.specs.declared.Lane.{Lane}
 use Rattle.value.specs.declared.text.Words.{Words}
 use Rattle.value.specs.declared.text.Words.TheVariants.{Absent as NoWords, Present as IsWords}

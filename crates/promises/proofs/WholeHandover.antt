@@ -16,10 +16,12 @@ use Rattle.spelling.specs.Decided.{is_text, text_from}
 use Rattle.lane.specs.Names.{U, D, NotConnected, Idle, Ready, Both, Unknown, ServiceDescription, BoardAvailable, MachineReady, StartTransport, StopTransport, TransportFinished, BoardForecast, NoOrder, Run}
 use Rattle.lane.specs.Chart.{pick, chart, by_rows, next}
 use Rattle.lane.specs.Ids.{id_of as forecast_bytes}
-use Rattle.lane.specs.IdLaws.{righted_again, same_ids}
+use Rattle.lane.proofs.IdLaws.{righted_again, same_ids}
 use Rattle.lane.specs.Record.{no_id, no_forecast, righted, same_forecast, fresh, other, received, sent}
-use Rattle.lane.specs.Laws.{same_refl, same_picked, received_by_lem, sent_by}
-use Rattle.lane.specs.Belt.{started, start_run, start_sent}
+use Rattle.lane.proofs.Laws.{same_refl}
+use Rattle.lane.proofs.Laws.{same_picked, received_by_lem, sent_by}
+use Rattle.lane.specs.Belt.{started}
+use Rattle.lane.proofs.Belt.{start_run, start_sent}
 use Rattle.lane.specs.declared.Event.{Event}
 use Rattle.lane.specs.declared.Lane.{Lane}
 use Rattle.lane.specs.declared.Moved.{Moved}

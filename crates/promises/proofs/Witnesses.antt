@@ -26,7 +26,7 @@ use Rattle.number.specs.Whole.{int_of, signed, sized}
 use Rattle.lane.specs.Names.{D, CheckAlive}
 use Rattle.lane.specs.Chart.{chart, by_rows, next}
 use Rattle.lane.specs.Record.{fresh, sent, righted}
-use Rattle.lane.specs.Free.{check_alive_received}
+use Rattle.lane.proofs.Free.{check_alive_received}
 use Rattle.lane.specs.declared.Lane.{Lane}
 use Rattle.value.specs.declared.text.Words.{Words}
 use Rattle.table.specs.Table.{table}

@@ -15,8 +15,10 @@ use Rattle.grammar.specs.Limits.{MESSAGE}
 use Rattle.grammar.specs.Glue.{is_glue}
 use Rattle.grammar.specs.Message.{Layout, Laid}
 use Rattle.grammar.specs.Answer.{leads, Behind, Answer as PaperAnswer, ends_at, more_from, malformed_at, too_long_from, Answers}
-use Rattle.model.specs.Messages.{layout_p, message_p, layout_exact}
-use Rattle.model.specs.Answers.{answer_at, answers, Window, window_behind, from_window}
+use Rattle.model.specs.Messages.{layout_p, message_p}
+use Rattle.model.proofs.Messages.{layout_exact}
+use Rattle.model.specs.Answers.{answer_at, Window}
+use Rattle.model.proofs.Answers.{answers, window_behind, from_window}
 use Rattle.scan.specs.Pieces.{Got, Skipped}
 use Rattle.scan.proofs.Chain.{known}
 use Rattle.scan.specs.declared.Step.{Step}

@@ -13,13 +13,16 @@ use Rattle.grammar.specs.Limits.{DEPTH}
 use Rattle.grammar.specs.Filler.{below_root, Filler, spell_filler, GoodFiller}
 use Rattle.grammar.specs.Element.{Element, spell_element}
 use Rattle.exact.specs.Loop.{loop_p}
-use Rattle.model.specs.Fillers.{bit_p, peek_p, FillThen, filled, fill_p, fill_exact}
-use Rattle.model.specs.Elements.{elem_p, content_p, IsElement, element_lt, element_no_bang, read_exact}
+use Rattle.model.specs.Fillers.{bit_p, peek_p, FillThen, filled, fill_p}
+use Rattle.model.proofs.Fillers.{fill_exact}
+use Rattle.model.specs.Elements.{elem_p, content_p, IsElement}
+use Rattle.model.proofs.Elements.{element_lt, element_no_bang, read_exact}
 use Rattle.scan.specs.Pieces.{Got, chained}
 use Rattle.scan.proofs.Chain.{then_done, Fails, never, pass, moved, known}
 use Rattle.scan.specs.declared.Step.{Step}
 use Rattle.scan.specs.declared.Step.TheVariants.{Done, Open, Bad}
-use Rattle.fillers.specs.Fills.{fill_tok, GotFiller, fill_bind, fill_word}
+use Rattle.fillers.specs.Fills.{fill_tok, GotFiller}
+use Rattle.fillers.proofs.Fills.{fill_bind, fill_word}
 use Rattle.grammar.specs.Places.{Outlines}
 use Rattle.reader.specs.Message.{itself, none, GotInner}
 use Rattle.reader.specs.Child.{no_child, Next, Stands, NextChild}

@@ -1,4 +1,5 @@
--- What the public calls promise: Answer, Child; what follows: Parts, Theorems; demand 3 of every result: Demand3, Turns.
+-- What the public calls promise: Answer, Child; what is said of what follows: Parts, Theorems; of demand 3: Demand3, Turns. The theorems stand in
+-- proofs/, each in the file of the same name.
 pub mod Answer
 pub mod Child
 pub mod Parts

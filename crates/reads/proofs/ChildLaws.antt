@@ -18,7 +18,8 @@ use Rattle.grammar.specs.Element.{Element, empty, full, Content, bare, child, sp
 use Rattle.grammar.specs.Places.{tag_in, inside_from}
 use Rattle.reader.specs.Child.{no_child, Next, Stands, NextChild}
 use Rattle.model.specs.Standing.{Parts}
-use Rattle.reader.specs.Parts.{child_parts, next_one, InContent, in_content, content_deeper}
+use Rattle.reader.specs.Parts.{InContent}
+use Rattle.reader.proofs.Parts.{child_parts, next_one, in_content, content_deeper}
 use Rattle.reader.specs.declared.answer.Child.{Child}
 use Rattle.table.specs.Says.{present, noted, without, name_of, children_of, has_child, notes, featured}
 use Rattle.lane.specs.Names.{ServiceDescription}

@@ -8,7 +8,8 @@ use lib.ListN.{length, take, drop}
 use Rattle.grammar.specs.Bytes.{Bytes}
 use Rattle.grammar.specs.Value.{Item, read_value}
 use Rattle.grammar.specs.Tree.{Pair}
-use Rattle.value.specs.Loose.{Loose, loosen}
+use Rattle.value.specs.Loose.{Loose}
+use Rattle.value.proofs.Loose.{loosen}
 use Rattle.value.specs.declared.text.Span.{Span}
 use Rattle.value.specs.declared.text.Words.{Words}
 use Rattle.value.specs.declared.text.Words.TheVariants.{Absent, Present}

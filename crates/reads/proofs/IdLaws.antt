@@ -11,8 +11,8 @@ use lib.Dec.{eqb, leb}
 use borrow.Author.Tests.{ne_eqb, eqb-true, eqb-false, le-leb, lt-leb}
 use Rattle.grammar.specs.Bytes.{Bytes}
 use Rattle.value.specs.Text.{altered, as_read}
-use Rattle.value.specs.AsRead.{raw_as_read_iff}
-use Rattle.value.specs.Loose.{loosen}
+use Rattle.value.proofs.AsRead.{raw_as_read_iff}
+use Rattle.value.proofs.Loose.{loosen}
 use Rattle.value.specs.Ids.{no_id, id_read, IdReads}
 use Rattle.value.specs.declared.id.Guid.{Guid}
 use Rattle.table.specs.Table.{rows_of, guid_cell_in}

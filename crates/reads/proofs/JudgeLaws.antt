@@ -17,7 +17,7 @@ use Rattle.number.specs.declared.whole.WholeRead.TheVariants.{Bad as NotRead, Is
 use Rattle.number.specs.declared.positive.NumberRead.{NumberRead}
 use Rattle.value.specs.Loose.{Loose}
 use Rattle.value.specs.Numbers.{Reads, read, unread, IntReads, NumberReads, GuidReads, VersionReads}
-use Rattle.value.specs.Size.{reads_no_longer, reads_some}
+use Rattle.value.proofs.Size.{reads_no_longer, reads_some}
 use Rattle.decodes.specs.Decoded.{LengthCase, LengthSays}
 use Rattle.decodes.specs.declared.decode.Length.{Length}
 use Rattle.decodes.specs.declared.decode.Length.TheVariants.{Is as IsLong, Not}

@@ -15,7 +15,7 @@ use Rattle.grammar.specs.Places.{value_end, child_of as inner, tag_in, inside_fr
 use Rattle.tags.specs.Places.{places}
 use Rattle.reader.specs.Answer.{paper, Accepted, RestOf, Outlined}
 use Rattle.model.specs.Standing.{Parts, ContentAt}
-use Rattle.reader.specs.Parts.{accepted_parts}
+use Rattle.reader.proofs.Parts.{accepted_parts}
 use Rattle.reader.specs.declared.answer.Answer.{Answer}
 use Rattle.reader.specs.declared.answer.Answer.TheVariants.{Ends, More, Malformed, TooLong}
 use Rattle.reader.specs.declared.answer.Outline.{Outline}

@@ -12,7 +12,8 @@ use lib.Seq.{drop-cons, get_or-drop, take-suc}
 use borrow.Author.Tests.{lt-leb, eq-eqb, ne_eqb}
 use Rattle.model.specs.Tests.{and_left, and_right, and_both, every_append, every_snoc}
 use Rattle.model.specs.Glue.{always}
-use Rattle.model.specs.Names.{live, new, live_view, of_live, live_shut}
+use Rattle.model.specs.Names.{live, new}
+use Rattle.model.proofs.Names.{live_view, of_live, live_shut}
 use Rattle.exact.specs.Exact.{done, more, bad}
 use Rattle.exact.specs.Chain.{ret_p}
 use Rattle.exact.specs.Token.{token_p}

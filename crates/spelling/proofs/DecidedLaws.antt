@@ -9,7 +9,8 @@ use Rattle.exact.specs.Exact.{Out, done, more, bad, Exact, sound, done≢more, d
 use Rattle.exact.specs.Chain.{clash}
 use Rattle.grammar.specs.Bytes.{Bytes, within, every}
 use Rattle.grammar.specs.Character.{is_char, utf8}
-use Rattle.model.specs.Characters.{IsRaw, plain_byte, char_p, char_exact}
+use Rattle.model.specs.Characters.{IsRaw, plain_byte, char_p}
+use Rattle.model.proofs.Characters.{char_exact}
 use Rattle.model.specs.Tests.{and_left, and_right, and_both}
 use Rattle.spelling.specs.Characters.{spell, IsText, TextSays, no_ban}
 use Rattle.spelling.specs.Decided.{onward, text_from, is_text}

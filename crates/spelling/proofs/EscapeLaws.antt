@@ -17,8 +17,8 @@ use Rattle.grammar.specs.Reference.{Reference, amp, lt, gt, quot, named, decimal
 use Rattle.grammar.specs.Value.{Item, raw, ref, spell_item, is_quote, banned, GoodItem, good_raw, good_ref, good_last, good_item, feeds, read_item, read_value}
 use Rattle.model.specs.Tests.{and_left, and_right}
 use Rattle.number.proofs.Tests.{cases}
-use Rattle.value.specs.AsRead.{reads_itself}
-use Rattle.value.specs.Quotes.{Bytes8, ascii, beyond, bytes8}
+use Rattle.value.proofs.AsRead.{reads_itself}
+use Rattle.value.proofs.Quotes.{Bytes8, ascii, beyond, bytes8}
 use Rattle.value.specs.Text.{Text}
 use Rattle.spelling.specs.Written.{escape_byte, escape}
 use Rattle.spelling.specs.Characters.{spell, IsText}

@@ -13,7 +13,7 @@ use Rattle.exact.specs.Byte.{other}
 use Rattle.exact.specs.Chain.{clash}
 use Rattle.grammar.specs.Bytes.{Bytes, within, every}
 use Rattle.grammar.specs.Character.{is_char, utf8}
-use Rattle.model.specs.Characters.{char_low}
+use Rattle.model.proofs.Characters.{char_low}
 use Rattle.model.specs.Tests.{or_cases, or_left, or_right, in_range, range_in, and_both, and_left, and_right}
 use Rattle.number.specs.Bytes.{and, blank, digit, hex, non_empty, all, drop_front, drop_back, keep_before, trim, pointed, before, behind, value}
 use Rattle.number.specs.Guid.{Place, hex_place, hyphen_place, places, may, filled, guid_of}

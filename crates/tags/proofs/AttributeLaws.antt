@@ -12,9 +12,10 @@ use borrow.Author.Tests.{ne_eqb, eqb-true}
 use Rattle.scan.specs.Pieces.{Got, GotTok, byte_p, word_p, glue_tok, chained}
 use Rattle.scan.specs.Unfold.{then_and, and_ext, and_and, glue_bind, on_bind}
 use Rattle.scan.proofs.Chain.{last, then_done, then_more, then_bad, Fails, never, tok, pass, known}
-use Rattle.model.specs.Values.{quote_is, IsValue, value_p, value_exact}
+use Rattle.model.specs.Values.{IsValue, value_p}
+use Rattle.model.proofs.Values.{quote_is, value_exact}
 use Rattle.model.specs.Glue.{always, glue_p}
-use Rattle.model.specs.Names.{start_not_glue}
+use Rattle.model.proofs.Names.{start_not_glue}
 use Rattle.model.specs.Attributes.{T, State, mk, fin, end_p, quoted_p, equals_p, attr_p}
 use Rattle.exact.specs.Exact.{Out, done, bad, Seen, is_done, is_more, is_bad, done≢more, done≢bad}
 use Rattle.exact.specs.Chain.{ret_p, and_then, clash}

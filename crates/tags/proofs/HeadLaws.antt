@@ -13,8 +13,9 @@ use Rattle.scan.specs.Pieces.{Got, GotTok, glue_tok, chained}
 use Rattle.scan.specs.Unfold.{then_and, and_and, glue_bind}
 use Rattle.scan.proofs.Chain.{then_done, then_more, then_bad, Fails, never, tok, pass}
 use Rattle.model.specs.Tests.{and_left, and_right}
-use Rattle.model.specs.Attributes.{T, turn_p, State, end_p, attr_p, head_p, head_eq}
-use Rattle.model.specs.Answers.{ended}
+use Rattle.model.specs.Attributes.{T, turn_p, State, end_p, attr_p, head_p}
+use Rattle.model.proofs.Attributes.{head_eq}
+use Rattle.model.proofs.Answers.{ended}
 use Rattle.exact.specs.Exact.{Out}
 use Rattle.exact.specs.Chain.{if_p}
 use Rattle.exact.specs.Byte.{pick, starts, choice_p}

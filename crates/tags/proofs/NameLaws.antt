@@ -11,7 +11,8 @@ use lib.Seq.{drop-cons, take_at}
 use lib.Dec.{eqb, leb, ltb}
 use borrow.Author.Tests.{leb-true, leb-false, le-leb, lt-leb}
 use Rattle.model.specs.Tests.{and_left, and_right, and_both, and_false, or_left, every_left, every_append}
-use Rattle.model.specs.Names.{glue_not_name, live, new, of_live, live_shut}
+use Rattle.model.specs.Names.{live, new}
+use Rattle.model.proofs.Names.{glue_not_name, of_live, live_shut}
 use Rattle.model.specs.Attributes.{State, equals_p, attr_p}
 use Rattle.exact.specs.Exact.{Out, bad, Reader}
 use Rattle.exact.specs.Chain.{clash}

@@ -12,7 +12,7 @@ use Rattle.grammar.specs.Bytes.{Bytes, within, digit, every}
 use Rattle.grammar.specs.Character.{utf8}
 use Rattle.grammar.specs.Reference.{Reference, Named, named, amp, lt, gt, quot, apos, spell_reference, hex_digit, GoodReference, good_named, good_decimal, good_hexadecimal}
 use Rattle.grammar.specs.Value.{Item, spell_item, spell_value, is_quote, banned, GoodItem, good_raw, good_ref, GoodValue, good_last, good_item}
-use Rattle.model.specs.Values.{quote_is}
+use Rattle.model.proofs.Values.{quote_is}
 use Rattle.model.specs.Tests.{or_cases, or_right, and_left}
 
 clash : {A : Type 0} (t : Bool) → t ≡ true → t ≡ false → A

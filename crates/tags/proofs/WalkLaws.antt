@@ -9,8 +9,8 @@ use lib.Dec.{leb}
 use borrow.Author.Tests.{leb-true, leb-false}
 use Rattle.exact.specs.Chain.{clash}
 use Rattle.model.specs.Tests.{and_false, same_true}
-use Rattle.model.specs.Names.{start_not_glue}
-use Rattle.model.specs.Glue.{quote_not_glue}
+use Rattle.model.proofs.Names.{start_not_glue}
+use Rattle.model.proofs.Glue.{quote_not_glue}
 use Rattle.grammar.specs.Bytes.{Bytes, every, same, among}
 use Rattle.grammar.specs.Glue.{is_glue}
 use Rattle.grammar.specs.Name.{name_byte}

@@ -9,10 +9,10 @@ use denote.Ref.{Bor}
 use borrow.Author.Tests.{le-leb}
 use Rattle.grammar.specs.Bytes.{Bytes}
 use Rattle.value.specs.Text.{Text}
-use Rattle.value.specs.Quotes.{text_one}
-use Rattle.value.specs.AsRead.{raw_as_read_iff}
+use Rattle.value.proofs.Quotes.{text_one}
+use Rattle.value.proofs.AsRead.{raw_as_read_iff}
 use Rattle.value.specs.Asking.{paper, Answer, no_value, stands, no_room_case, decoded, TextSays, absent, outside, there}
-use Rattle.value.specs.Only.{paper_injective}
+use Rattle.value.proofs.Only.{paper_injective}
 use Rattle.value.specs.Parts.{part_or, part_at, Lies}
 use Rattle.value.specs.declared.text.Span.{Span}
 use Rattle.value.specs.declared.text.Words.TheVariants.{Present}

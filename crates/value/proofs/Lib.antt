@@ -1,3 +1,8 @@
+pub mod Quotes
+pub mod AsRead
+pub mod Loose
+pub mod Size
+pub mod Only
 pub mod PartLaws
 pub mod AskedLaws
 pub mod IdLaws

@@ -13,13 +13,14 @@ use Rattle.grammar.specs.Value.{Item, spell_item, spell_value, GoodItem, GoodVal
 use Rattle.number.proofs.Theorems.{int_only, number_only, guid_only, version_only}
 use Rattle.number.specs.declared.whole.WholeRead.{WholeRead}
 use Rattle.number.specs.declared.positive.NumberRead.{NumberRead}
-use Rattle.value.specs.Size.{some_bytes}
-use Rattle.value.specs.Loose.{item_exact, BRACKET, Loose}
+use Rattle.value.proofs.Size.{some_bytes}
+use Rattle.value.specs.Loose.{BRACKET, Loose}
+use Rattle.value.proofs.Loose.{item_exact}
 use Rattle.value.specs.Numbers.{Reads, read, unread, IntReads, NumberReads, GuidReads, VersionReads}
 use Rattle.value.specs.Ids.{IdReads}
 use Rattle.value.specs.Parts.{part_at, Lies}
 use Rattle.value.specs.Asked.{refusal_of, Asked}
-use Rattle.value.specs.Only.{decode_only, part_only}
+use Rattle.value.proofs.Only.{decode_only, part_only}
 use Rattle.value.specs.declared.id.Guid.{Guid}
 use Rattle.value.specs.declared.text.Words.{Words}
 use Rattle.value.specs.declared.text.TextAt.{TextAt}

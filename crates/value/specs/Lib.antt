@@ -2,7 +2,6 @@ pub mod Text
 pub mod Quotes
 pub mod AsRead
 pub mod Loose
-pub mod Size
 pub mod Asking
 pub mod Parts
 pub mod Only

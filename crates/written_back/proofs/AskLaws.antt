@@ -11,10 +11,10 @@ use borrow.Author.Tests.{leb-true, leb-false}
 use Rattle.grammar.specs.Bytes.{Bytes}
 use Rattle.spelling.proofs.EscapeLaws.{Unnamed}
 use Rattle.value.specs.Text.{Text}
-use Rattle.value.specs.AsRead.{raw_as_read_iff}
+use Rattle.value.proofs.AsRead.{raw_as_read_iff}
 use Rattle.value.specs.Asking.{Told, refused, paper, Answer, no_value, stands, no_room_case, decoded, TextSays, absent, outside, there}
 use Rattle.value.specs.Asked.{refusal_of}
-use Rattle.value.specs.Only.{paper_injective}
+use Rattle.value.proofs.Only.{paper_injective}
 use Rattle.value.specs.Parts.{part_at, Lies}
 use Rattle.value.proofs.AskedLaws.{in_message_lem, in_scratch_lem}
 use Rattle.value.specs.declared.text.Span.{Span}

@@ -1,5 +1,4 @@
 -- The invariant: the filler goes on at `i` behind comments, with no `]` before it.
-use Prim.Native.Nat.{◌-◌}
 use native.Mathlib.Omega.{arith}
 use Rattle.scan.proofs.Chain.{known}
 use Rattle.fillers.proofs.FillLaws.{known_gap, fill_start, fill_fails, fill-short, fill-tag, fill-comment-fails, fill-next}

@@ -12,7 +12,7 @@ use Rattle.exact.specs.Exact.{Out, done, more, bad, Reader}
 use Rattle.exact.specs.Chain.{ret_p, bind_p, if_p}
 use Rattle.exact.specs.Byte.{pick, on_p, lit_p, choice_p}
 use Rattle.exact.specs.Token.{token_p}
-use Rattle.grammar.specs.Bytes.{Bytes, text, either, every, non_empty, same}
+use Rattle.grammar.specs.Bytes.{Bytes, text, either, every, non_empty}
 use Rattle.grammar.specs.Glue.{is_glue}
 use Rattle.grammar.specs.Value.{is_quote}
 use Rattle.grammar.specs.Declaration.{Setting, Optional, absent, present, Declaration, version_bytes, encoding_bytes}

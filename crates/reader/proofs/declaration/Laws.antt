@@ -16,7 +16,6 @@ use Rattle.model.specs.Declarations.{version_p, encoding_p, yes_no_p, mk_setting
 use Rattle.exact.specs.Exact.{Out, done, more, bad, Reader}
 use Rattle.exact.specs.Byte.{pick, lit_p}
 use Rattle.grammar.specs.Bytes.{Bytes, text, either, non_empty}
-use Rattle.grammar.specs.Reference.{lt}
 use Rattle.grammar.specs.Value.{is_quote}
 use Rattle.grammar.specs.Declaration.{Setting, Optional, absent, present, Declaration}
 use Rattle.reader.specs.Declaration.{pairs_p, mk_opening, quote_p, open_p, OpenCase, GotOpen, GotSetting, GotBehindStandalone, GotStandaloneOrEnd, GotBehindEncoding, GotBehindVersion}

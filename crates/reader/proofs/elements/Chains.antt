@@ -12,11 +12,13 @@ use Rattle.grammar.specs.Filler.{below_root, Filler}
 use Rattle.model.specs.Names.{live, new}
 use Rattle.model.specs.Attributes.{head_p}
 use Rattle.model.specs.Fillers.{fill_p}
-use Rattle.model.specs.Elements.{close_p, Tail, body_p, elem_p, Acc, ContentTurn, shut_turn, child_turn, leaf_tag_p, node_tag_p, content_turn_p, content_p, TagL, leaf_tag_exact, node_tag_exact, loop_content_eq, read_exact}
+use Rattle.model.specs.Elements.{close_p, Tail, body_p, elem_p, Acc, ContentTurn, shut_turn, child_turn, leaf_tag_p, node_tag_p, content_turn_p, content_p, TagL}
+use Rattle.model.proofs.Elements.{leaf_tag_exact, node_tag_exact, loop_content_eq, read_exact}
 use Rattle.scan.specs.Pieces.{name_tok, chained}
 use Rattle.scan.specs.Unfold.{then_and, and_ext, and_and, token_bind}
 use Rattle.scan.proofs.Chain.{then_done}
-use Rattle.fillers.specs.Fills.{fill_tok, fill_bind}
+use Rattle.fillers.specs.Fills.{fill_tok}
+use Rattle.fillers.proofs.Fills.{fill_bind}
 use Rattle.reader.specs.Elements.{start_p}
 
 -- an element: its tag, then the rest

@@ -19,7 +19,8 @@ use Rattle.model.specs.Messages.{mk_root, root_p, layout_p}
 use Rattle.scan.specs.Pieces.{byte_p, word_p, chained}
 use Rattle.scan.specs.Unfold.{then_and, and_ext, on_bind, close_bind}
 use Rattle.grammar.specs.Filler.{in_root}
-use Rattle.fillers.specs.Fills.{fill_tok, fill_bind}
+use Rattle.fillers.specs.Fills.{fill_tok}
+use Rattle.fillers.proofs.Fills.{fill_bind}
 use Rattle.reader.specs.Message.{inside_p, declared_p}
 
 pub root_bind : (t : Bytes) → root_p t ≡ chained (word_p hermes t) (λ _ u. chained (head_p false u) (λ h v. chained (fill_tok in_root v) (λ f w. inside_p hermes h f w)))

@@ -19,9 +19,11 @@ use Rattle.grammar.specs.Attribute.{spell_attributes}
 use Rattle.grammar.specs.Filler.{Site, in_root, Filler, spell_filler}
 use Rattle.grammar.specs.Element.{Element, empty, full}
 use Rattle.grammar.specs.Message.{Root, Layout, plain, declared, hermes}
-use Rattle.model.specs.Attributes.{Head, end_of, IsHead, head_p, head_exact}
+use Rattle.model.specs.Attributes.{Head, end_of, IsHead, head_p}
+use Rattle.model.proofs.Attributes.{head_exact}
 use Rattle.model.specs.Elements.{Tail, tag_of, body_p, elem_p, content_p}
-use Rattle.model.specs.Declarations.{declaration_p, declaration_exact}
+use Rattle.model.specs.Declarations.{declaration_p}
+use Rattle.model.proofs.Declarations.{declaration_exact}
 use Rattle.model.specs.Messages.{mk_root, root_p, layout_p}
 use Rattle.scan.specs.Pieces.{Got, byte_p, word_p, chained, end_tag_p}
 use Rattle.scan.specs.Unfold.{then_and}
@@ -29,7 +31,8 @@ use Rattle.scan.proofs.Chain.{then_done, Fails, pass, last, moved, known}
 use Rattle.scan.specs.declared.Step.{Step}
 use Rattle.scan.specs.declared.Step.TheVariants.{Done, Open}
 use Rattle.tags.specs.Heads.{HeadRead, HeadSays}
-use Rattle.fillers.specs.Fills.{fill_tok, GotFiller, fill_word}
+use Rattle.fillers.specs.Fills.{fill_tok, GotFiller}
+use Rattle.fillers.proofs.Fills.{fill_word}
 use Rattle.reader.specs.Elements.{GotStart}
 use Rattle.grammar.specs.Places.{inner_of, child_of, tag_in, root_lead, lead, inside_from}
 use Rattle.reader.specs.Message.{with_end, itself, none, Drawn, GotInner, inside_p, GotInside, declared_p, declared_lead}

@@ -2,7 +2,8 @@
 use mathlib.Core.Path.{sym, ap}
 use native.Mathlib.Omega.{arith}
 use Rattle.routes.specs.Classes.{ARoute, Reserved, Own, class_of}
-use Rattle.routes.specs.Theorems.{a_route, reserved, own, class_has}
+use Rattle.routes.specs.Theorems.{a_route, reserved, own}
+use Rattle.routes.proofs.Theorems.{class_has}
 use Rattle.routes.proofs.route_class.Goals as goal
 
 -- Each answer is the class that has the number.

@@ -1,5 +1,4 @@
 -- The invariant: the comment goes on at `i` after the marks read so far.
-use Prim.Native.Nat.{◌-◌}
 use native.Mathlib.Omega.{arith}
 use Rattle.pieces.proofs.Answers.{known}
 use Rattle.fillers.proofs.CommentLaws.{marks_start, marks_end, marks_ran, marks-cut, marks-shut, marks-fail, marks-next, past_from}

@@ -1,5 +1,4 @@
 -- The invariant: what lies behind is plain.
-use Prim.Native.Nat.{◌-◌}
 use native.Mathlib.Omega.{arith}
 use Rattle.fillers.proofs.RunLaws.{run_none, run_many}
 use Rattle.fillers.proofs.runs.eights.Goals as goal

@@ -1,6 +1,5 @@
 -- The invariant: what lies behind is plain.
 use mathlib.Core.Path.{sym, ◌∙◌}
-use Prim.Native.Nat.{◌-◌}
 use Rattle.fillers.proofs.RunLaws.{run_more}
 use Rattle.fillers.proofs.runs.run.Goals as goal
 

@@ -1,5 +1,4 @@
 -- The invariant: the text goes on at `i`, behind `n` brackets in a row.
-use Prim.Native.Nat.{◌-◌}
 use native.Mathlib.Omega.{arith}
 use Rattle.pieces.proofs.Answers.{known}
 use Rattle.fillers.proofs.TextLaws.{text_start, text_end, text_cleared, text-stop, text-fail, text-next}

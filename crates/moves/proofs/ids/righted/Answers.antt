@@ -4,7 +4,7 @@ use Prim.Native.Nat.{◌-◌}
 use native.Mathlib.Omega.{arith}
 use borrow.Author.Rules.{rules}
 use lib.ListN.{length}
-use Rattle.lane.specs.IdLaws.{padded_more, righted_none, righted_over, righted_in}
+use Rattle.lane.proofs.IdLaws.{padded_more, righted_none, righted_over, righted_in}
 use Rattle.moves.proofs.ids.righted.Goals as goal
 
 pub returns-then-length-eq0 : goal.returns-then-length-eq0

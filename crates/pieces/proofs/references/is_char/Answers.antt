@@ -4,7 +4,7 @@ use mathlib.Core.List.{[], ◌∷◌}
 use mathlib.Core.Bool.{true, false}
 use native.Mathlib.Omega.{arith}
 use Rattle.scan.proofs.Classes.{ranged, keyed, ranged_but}
-use Rattle.model.specs.Characters.{char_low, char_mid, char_high}
+use Rattle.model.proofs.Characters.{char_low, char_mid, char_high}
 use Rattle.grammar.specs.Bytes.{within}
 use Rattle.grammar.specs.Character.{is_char}
 use Rattle.pieces.proofs.NumeralLaws.{char_between, char_last, char_beyond}

@@ -1,5 +1,4 @@
 -- `folded` meets its contract. The invariant: k bytes are read, and the model goes on behind them.
-use Prim.Native.Nat.{◌-◌}
 use mathlib.Core.Path.{sym, ◌∙◌}
 use native.Mathlib.Omega.{arith}
 use Rattle.reader.proofs.declaration.Laws.{fold_start, fold_done, fold_open, fold-bad, fold_next}

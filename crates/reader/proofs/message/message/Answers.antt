@@ -1,6 +1,4 @@
 -- `message` meets its contract: the byte behind the first `<` says whether a declaration follows.
-use mathlib.Core.Logic.{inl}
-use mathlib.Core.Path.{refl}
 use Rattle.scan.proofs.Chain.{known}
 use Rattle.grammar.specs.Places.{child_of, lead}
 use Rattle.reader.proofs.message.Laws.{inner_fails, message_fails, message_open, message-declared, message-plain}

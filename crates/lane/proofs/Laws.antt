@@ -9,8 +9,8 @@ use Rattle.lane.specs.Chart.{pick, both, either, among, is_free, may_pass, may_n
 use Rattle.lane.specs.Names.{U, D, MachineReady, BoardForecast, Accepted, MayNotBeSent, ProtocolError}
 use Rattle.lane.specs.Record.{other, forecast_used, forecast_held, forecast_after, forecast_in, answer, ended, kept, step_in, step_out, received, sent}
 use Rattle.lane.specs.Ids.{no_forecast, righted, same_forecast}
-use Rattle.lane.specs.IdLaws.{righted_none, righted_again}
-pub use Rattle.lane.specs.IdLaws.{both_parts, same_refl, same_true, same_false}
+use Rattle.lane.proofs.IdLaws.{righted_none, righted_again}
+pub use Rattle.lane.proofs.IdLaws.{both_parts, same_refl, same_true, same_false}
 use Rattle.lane.specs.declared.Event.{Event}
 use Rattle.lane.specs.declared.Lane.{Lane}
 use Rattle.lane.specs.declared.Moved.{Moved}

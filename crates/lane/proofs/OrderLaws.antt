@@ -4,7 +4,8 @@ use Rattle.std.proofs.Common.{sym, ◌∙◌, inl, inr, ⊎_elim, arith, eqb→e
 use Rattle.lane.specs.Names.{D, Ready, Both, StartTransport, NoOrder, Run, Cancel, StopNow}
 use Rattle.lane.specs.Chart.{pick, both, either, among, Sent, chart, by_rows, next}
 use Rattle.lane.specs.Record.{carries_own, start_order}
-use Rattle.lane.specs.Laws.{both_parts, by_rows_lem, next_cases}
+use Rattle.lane.proofs.Laws.{both_parts}
+use Rattle.lane.proofs.Laws.{by_rows_lem, next_cases}
 use Rattle.lane.specs.declared.Event.{Event}
 use Rattle.lane.specs.declared.Lane.{Lane}
 use Rattle.lane.specs.declared.chart.Step.TheVariants.{To, NoTransition}

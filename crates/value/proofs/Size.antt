@@ -3,14 +3,14 @@ use Rattle.std.specs.Prelude.{◌≡◌, refl, List, [], ◌∷◌, ◌++◌, Bo
 use Rattle.std.proofs.Common.{sym, ap, subst, ◌∙◌, arith, length-append}
 use Prim.Native.Char.{code}
 use Rattle.model.specs.Tests.{and_right}
-use Rattle.model.specs.Values.{amp_first}
+use Rattle.model.proofs.Values.{amp_first}
 use Rattle.exact.specs.Byte.{eqb-true}
 use Rattle.exact.specs.Chain.{clash}
 use Rattle.grammar.specs.Bytes.{Bytes, text, non_empty}
 use Rattle.grammar.specs.Character.{utf8}
 use Rattle.grammar.specs.Reference.{read_reference}
 use Rattle.grammar.specs.Value.{Item, raw, ref, spell_item, spell_value, GoodItem, good_raw, good_ref, GoodValue, good_last, good_item, feeds, read_item, read_value}
-use Rattle.value.specs.AsRead.{utf8_size, value_size}
+use Rattle.value.proofs.AsRead.{utf8_size, value_size}
 use Rattle.value.specs.Loose.{Loose}
 
 pub reads_no_longer : {w : Bytes} {l : List Item} → Loose w l → length (read_value l) ≤ length w

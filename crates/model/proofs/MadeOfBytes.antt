@@ -16,10 +16,10 @@ use Rattle.grammar.specs.Tree.{Tree}
 use Rattle.grammar.specs.Element.{Tag, Element, Content, spell_tag, spell_end, spell_element, spell_content, GoodTag, GoodElement, good_empty, good_full, GoodContent, good_bare, good_child}
 use Rattle.grammar.specs.Declaration.{Setting, Optional, Declaration, spell_setting, spell_optional, spell_declaration, is_version, is_encoding, is_standalone, GoodSetting, GoodOptional, good_absent, good_present, GoodDeclaration}
 use Rattle.grammar.specs.Message.{Root, Layout, hermes, spell_root, spell_layout, GoodRoot, GoodLayout, good_plain, good_declared, Message}
-use Rattle.model.specs.Characters.{char_max, utf8_1}
+use Rattle.model.proofs.Characters.{char_max, utf8_1}
 use Rattle.model.specs.Tests.{and_left, and_right, and_both, or_cases, in_range, same_true, every_append}
-use Rattle.model.specs.Values.{quote_is}
-use Rattle.model.specs.Glue.{glue_low}
+use Rattle.model.proofs.Values.{quote_is}
+use Rattle.model.proofs.Glue.{glue_low}
 
 abbrev byte : ℕ → Bool
 byte b = leb b 255

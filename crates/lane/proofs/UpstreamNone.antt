@@ -6,9 +6,9 @@ use Rattle.lane.specs.Names.{U, D, MachineReady, BoardForecast}
 use Rattle.lane.specs.Chart.{pick, both, Received, Sent}
 use Rattle.lane.specs.Ids.{no_forecast, righted, same_forecast}
 use Rattle.lane.specs.Record.{fresh, forecast_used, forecast_held, forecast_after, forecast_in, carries_own, other, step_in, step_out, received, sent}
-use Rattle.lane.specs.Laws.{clash, same_picked, none_right, received_by_lem, sent_by}
+use Rattle.lane.proofs.Laws.{clash, same_picked, none_right, received_by_lem, sent_by}
 use Rattle.lane.specs.StepForStep.{Happening, gets, sends, ends, loses, after, final}
-use Rattle.lane.specs.Forecasts.{forecast_step}
+use Rattle.lane.proofs.Forecasts.{forecast_step}
 use Rattle.lane.specs.declared.Event.{Event}
 use Rattle.lane.specs.declared.Lane.{Lane}
 use Rattle.lane.specs.declared.ids.Forecast.{Forecast}

@@ -1,15 +1,15 @@
 -- Every input has exactly one listing.
-use Rattle.std.specs.Prelude.{◌≡◌, refl, List, [], ◌++◌, false, ℕ, zero, suc, ◌+◌, ◌-◌, ◌≤◌, ◌<◌, length, drop}
+use Rattle.std.specs.Prelude.{◌≡◌, refl, List, [], ◌++◌, false, ℕ, zero, suc, ◌+◌, ◌≤◌, ◌<◌, length, drop}
 use Rattle.std.proofs.Common.{sym, ap, subst, ◌∙◌, arith, length-append, length-drop}
 use Rattle.exact.specs.Byte.{Starts, starts}
 use Rattle.grammar.specs.Bytes.{Bytes}
 use Rattle.grammar.specs.Glue.{is_glue}
 use Rattle.grammar.specs.Tree.{Tree}
 use Rattle.grammar.specs.Answer.{Ends, Answer, ends_at, more_from, malformed_at, too_long_from, Answers}
-use Rattle.model.specs.Answers.{behind_one}
-use Rattle.model.specs.Cuts.{message_starts}
-use Rattle.model.specs.Messages.{message_exact}
-use Rattle.model.specs.Theorems.{answers_total, answers_only}
+use Rattle.model.proofs.Answers.{behind_one}
+use Rattle.model.proofs.Cuts.{message_starts}
+use Rattle.model.proofs.Messages.{message_exact}
+use Rattle.model.proofs.Theorems.{answers_total, answers_only}
 use Rattle.exact.specs.Exact.{unique}
 use Rattle.table.specs.Says.{said_of}
 use Rattle.lines.specs.Lines.{MessageLine, LastLine, FirstLine, EndLine, unfinished, malformed, too_long, line_from, last_from, Lists, list_end, list_line}

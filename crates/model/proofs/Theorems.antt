@@ -14,14 +14,19 @@ use Rattle.grammar.specs.Answer.{Behind, Open, Answer, ends_at, malformed_at, An
 use Rattle.grammar.specs.Cut.{Piece, Cut}
 use Rattle.model.specs.Tests.{every_right}
 use Rattle.model.specs.Characters.{IsRaw}
-use Rattle.model.specs.References.{decimal_begun, decimal_open, hexadecimal_begun, hexadecimal_open}
-use Rattle.model.specs.Values.{quote_is, quote_stops, ban_ascii, plain_letter}
-use Rattle.model.specs.Names.{live, name_open}
-use Rattle.model.specs.Messages.{layout_exact, message_p, message_exact}
-use Rattle.model.specs.Answers.{behind, begins, is_open, open_left, longest_dead, answer_of, answered, answers_are, Window, to_window, from_window}
-use Rattle.model.specs.Cuts.{message_ends, cut_one, other_tail}
-use Rattle.model.specs.Completions.{char_begins, char_begins_lem}
-use Rattle.model.specs.MadeOfBytes.{message_bytes}
+use Rattle.model.specs.References.{decimal_begun, hexadecimal_begun}
+use Rattle.model.proofs.References.{decimal_open, hexadecimal_open}
+use Rattle.model.proofs.Values.{quote_is, quote_stops, ban_ascii, plain_letter}
+use Rattle.model.specs.Names.{live}
+use Rattle.model.proofs.Names.{name_open}
+use Rattle.model.specs.Messages.{message_p}
+use Rattle.model.proofs.Messages.{layout_exact, message_exact}
+use Rattle.model.specs.Answers.{answer_of, Window}
+use Rattle.model.proofs.Answers.{behind, begins, is_open, open_left, longest_dead, answered, answers_are, to_window, from_window}
+use Rattle.model.proofs.Cuts.{message_ends, cut_one, other_tail}
+use Rattle.model.specs.Completions.{char_begins}
+use Rattle.model.proofs.Completions.{char_begins_lem}
+use Rattle.model.proofs.MadeOfBytes.{message_bytes}
 
 -- "it has only one reading"
 pub one_reading : {w : Bytes} {t t' : Tree} → Message w t → Message w t' → t ≡ t'

@@ -10,7 +10,8 @@ use Rattle.lines.specs.declared.Listed.{Listed}
 use Rattle.lines.specs.declared.Listed.TheVariants.{Line, Drop, End}
 use Rattle.windows.specs.Held.{bytes_of, next, ends}
 use Rattle.listing.specs.Turns.{At, Turn, Past, past_start, past_turn, Unended}
-use Rattle.listing.specs.Prints.{holds, topped_long, left_long}
+use Rattle.listing.specs.Prints.{holds}
+use Rattle.listing.proofs.Prints.{topped_long, left_long}
 use Rattle.windows.specs.declared.window.Window.{Window}
 
 -- each line has a byte of its own; and so has each turn without one: before it a byte is read, since the turn before it had a line and needed none, or

@@ -1,0 +1,19 @@
+-- Each reader of the model is exact; then what follows.
+pub mod Characters
+pub mod References
+pub mod Values
+pub mod Glue
+pub mod Names
+pub mod Attributes
+pub mod Comments
+pub mod Fillers
+pub mod Elements
+pub mod Declarations
+pub mod Messages
+pub mod Answers
+pub mod Cuts
+pub mod Completions
+pub mod MadeOfBytes
+pub mod Theorems
+pub mod Bench
+pub mod Remarks
