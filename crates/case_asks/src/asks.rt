@@ -17,18 +17,18 @@ use rows::data::Range;
 /// The room of a buffer for what is written.
 const ROOM: usize = 6500;
 
-fn three(answer: u64, start: usize, place: usize) {
-    told(b"", answer);
-    told(b" ", start as u64);
-    told(b" ", place as u64);
+fn three(rt: &impl Print, answer: u64, start: usize, place: usize) {
+    told(rt, b"", answer);
+    told(rt, b" ", start as u64);
+    told(rt, b" ", place as u64);
 }
 
-fn read(a: Answer) {
+fn read(rt: &impl Print, a: Answer) {
     match a {
-        Answer::Ends { start, end } => three(0, start, end),
-        Answer::More { start } => three(1, start, start),
-        Answer::Malformed { start, place } => three(2, start, place),
-        Answer::TooLong { start } => three(3, start, start),
+        Answer::Ends { start, end } => three(rt, 0, start, end),
+        Answer::More { start } => three(rt, 1, start, start),
+        Answer::Malformed { start, place } => three(rt, 2, start, place),
+        Answer::TooLong { start } => three(rt, 3, start, start),
     }
 }
 
@@ -48,62 +48,62 @@ fn form(from: usize, i: usize) -> u64 {
     numbers[j] / 0x0100_0000_0000_0000
 }
 
-fn value(form: u64, there: u64, a: u64, b: u64, id: [u8; 36]) {
+fn value(rt: &impl Print, form: u64, there: u64, a: u64, b: u64, id: [u8; 36]) {
     if there == 0 {
-        put(b" -");
+        put(rt, b" -");
         return;
     }
     match form {
         1 | 2 | 5 => {
-            told(b" ", a);
-            told(b"+", b);
+            told(rt, b" ", a);
+            told(rt, b"+", b);
         }
         4 => {
-            put(b" ");
-            put(&id);
+            put(rt, b" ");
+            put(rt, &id);
         }
         _ => {
-            told(b" ", a);
+            told(rt, b" ", a);
             if 0 < b {
-                told(b"+", b);
+                told(rt, b"+", b);
             }
         }
     }
 }
 
 // The values of the rows in a range.
-fn in_order(cells: [u64; NUMBERS], id: [u8; 36], range: Range) {
+fn in_order(rt: &impl Print, cells: [u64; NUMBERS], id: [u8; 36], range: Range) {
     for i in 0..24 {
         if range.count <= i {
             return;
         }
         let f = form(range.from, i);
-        value(f, cells[3 * i], cells[3 * i + 1], cells[3 * i + 2], id);
+        value(rt, f, cells[3 * i], cells[3 * i + 1], cells[3 * i + 2], id);
     }
 }
 
-fn values(m: Message) {
+fn values(rt: &impl Print, m: Message) {
     let cells = m.cells;
     let id = m.id;
-    in_order(cells, id, rows::data::rows_of(m.kind));
+    in_order(rt, cells, id, rows::data::rows_of(m.kind));
 }
 
-fn checked(c: Checked) {
-    small(b"; ", c.refusal);
-    told(b" ", c.start as u64);
-    told(b" ", c.end as u64);
-    told(b" ", c.place as u64);
+fn checked(rt: &impl Print, c: Checked) {
+    small(rt, b"; ", c.refusal);
+    told(rt, b" ", c.start as u64);
+    told(rt, b" ", c.end as u64);
+    told(rt, b" ", c.place as u64);
     let m = c.message;
-    small(b" ", m.kind);
+    small(rt, b" ", m.kind);
     if c.refusal == 0 {
-        values(m);
+        values(rt, m);
     }
-    put(b"\n");
+    put(rt, b"\n");
 }
 
-fn check(v: &[u8]) {
-    read(reader::read(v));
-    checked(reads::check(v));
+fn check(rt: &impl Print, v: &[u8]) {
+    read(rt, reader::read(v));
+    checked(rt, reads::check(v));
 }
 
 // Writes in the first bytes of a buffer.
@@ -114,28 +114,28 @@ fn written(m: Message, texts: &[u8], out: &mut [u8], room: usize) -> Written {
     writes::write(m, texts, &mut out[..room])
 }
 
-fn write(s: &[u8], texts: &[u8]) {
+fn write(rt: &impl Print, s: &[u8], texts: &[u8]) {
     let room = decimal(s, 6);
     let m = message(s, room.next + 1);
     let mut out = [b'~'; ROOM];
     let w = written(m, texts, &mut out, room.value as usize);
-    small(b"refusal ", w.refusal);
-    show::room(&out, w.count, room.value as usize);
-    put(b"\n");
-    show::bytes(b"", &out, w.count);
+    small(rt, b"refusal ", w.refusal);
+    show::room(rt, &out, w.count, room.value as usize);
+    put(rt, b"\n");
+    show::bytes(rt, b"", &out, w.count);
 }
 
-fn moved(word: &[u8], before: Lane, m: Moved) {
-    small(word, m.refusal);
-    small(b" order ", m.order);
-    put(b" ");
+fn moved(rt: &impl Print, word: &[u8], before: Lane, m: Moved) {
+    small(rt, word, m.refusal);
+    small(rt, b" order ", m.order);
+    put(rt, b" ");
     let after = m.lane;
-    show::record(after);
-    show::change(before, after);
+    show::record(rt, after);
+    show::change(rt, before, after);
 }
 
 // The record from 5 on, a kind and an id.
-fn moves(s: &[u8], v: &[u8]) {
+fn moves(rt: &impl Print, s: &[u8], v: &[u8]) {
     let mut lane = record(s, 5, b"");
     let none = Forecast::none();
     lane.forecast = none;
@@ -154,22 +154,22 @@ fn moves(s: &[u8], v: &[u8]) {
         carries: 0 < v.len(),
         forecast,
     };
-    moved(b"received ", lane, moves::received(lane, event));
-    moved(b"; sent ", lane, moves::sent(lane, event));
-    put(b"\n");
+    moved(rt, b"received ", lane, moves::received(lane, event));
+    moved(rt, b"; sent ", lane, moves::sent(lane, event));
+    put(rt, b"\n");
 }
 
 /// The call that a line asks for.
-pub fn ask(s: &[u8], v: &[u8]) {
+pub fn ask(rt: &impl Print, s: &[u8], v: &[u8]) {
     let letter = byte(s, 0);
     match letter {
-        b'c' => check(v),
-        b'f' => feed(v),
-        b'm' => moves(s, v),
-        b'w' => write(s, v),
+        b'c' => check(rt, v),
+        b'f' => feed(rt, v),
+        b'm' => moves(rt, s, v),
+        b'w' => write(rt, s, v),
         _ => {
             let n = decimal(s, 4);
-            worth(letter, v, n.value as usize);
+            worth(rt, letter, v, n.value as usize);
         }
     }
 }

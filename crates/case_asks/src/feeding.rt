@@ -10,17 +10,17 @@ struct Window {
     done: bool,
 }
 
-fn line(start: usize, end: usize, kind: u8, refusal: u8) {
-    told(b" ", start as u64);
-    told(b" ", end as u64);
-    small(b" ", kind);
-    small(b" ", refusal);
-    put(b",");
+fn line(rt: &impl Print, start: usize, end: usize, kind: u8, refusal: u8) {
+    told(rt, b" ", start as u64);
+    told(rt, b" ", end as u64);
+    small(rt, b" ", kind);
+    small(rt, b" ", refusal);
+    put(rt, b",");
 }
 
-fn end_line(place: usize, answer: u8) {
-    told(b" end ", place as u64);
-    small(b" ", answer);
+fn end_line(rt: &impl Print, place: usize, answer: u8) {
+    told(rt, b" end ", place as u64);
+    small(rt, b" ", answer);
 }
 
 // a + b, at most `most`.
@@ -35,7 +35,7 @@ fn sum(a: usize, b: usize, most: usize) -> usize {
 }
 
 // One step of the listing of s. Where a line is short of bytes the window grows.
-fn turn(s: &[u8], w: Window, more: usize) -> Window {
+fn turn(rt: &impl Print, s: &[u8], w: Window, more: usize) -> Window {
     let at = w.at;
     let len = w.len;
     if s.len() < len {
@@ -52,7 +52,7 @@ fn turn(s: &[u8], w: Window, more: usize) -> Window {
             kind,
             refusal,
         } => {
-            line(sum(at, start, len), sum(at, end, len), kind, refusal);
+            line(rt, sum(at, start, len), sum(at, end, len), kind, refusal);
             Window {
                 at: sum(at, end, len),
                 len: len,
@@ -65,7 +65,7 @@ fn turn(s: &[u8], w: Window, more: usize) -> Window {
             done: false,
         },
         Listed::End { at: place, answer } => {
-            end_line(sum(at, place, len), answer);
+            end_line(rt, sum(at, place, len), answer);
             Window {
                 at: at,
                 len: len,
@@ -75,7 +75,7 @@ fn turn(s: &[u8], w: Window, more: usize) -> Window {
     }
 }
 
-fn list(s: &[u8], more: usize) {
+fn list(rt: &impl Print, s: &[u8], more: usize) {
     let mut w = Window {
         at: 0,
         len: 0,
@@ -83,7 +83,7 @@ fn list(s: &[u8], more: usize) {
     };
     let mut turns = u64::MAX;
     while 0 < turns {
-        w = turn(s, w, more);
+        w = turn(rt, s, w, more);
         if w.done {
             return;
         }
@@ -92,12 +92,12 @@ fn list(s: &[u8], more: usize) {
 }
 
 /// `feed`: the lines of an input, by windows that grow by 37, 1,000 and 65,536 bytes.
-pub fn feed(s: &[u8]) {
-    put(b"by 37:");
-    list(s, 37);
-    put(b"; by 1000:");
-    list(s, 1000);
-    put(b"; by 65536:");
-    list(s, 65536);
-    put(b"\n");
+pub fn feed(rt: &impl Print, s: &[u8]) {
+    put(rt, b"by 37:");
+    list(rt, s, 37);
+    put(rt, b"; by 1000:");
+    list(rt, s, 1000);
+    put(rt, b"; by 65536:");
+    list(rt, s, 65536);
+    put(rt, b"\n");
 }

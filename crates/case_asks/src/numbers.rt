@@ -5,55 +5,55 @@ use number::{NumberRead, WholeRead};
 use numerals::Scan;
 use routes::RouteClass;
 
-fn whole(r: WholeRead) {
+fn whole(rt: &impl Print, r: WholeRead) {
     let WholeRead::Is(below, size) = r else {
-        put(b"bad\n");
+        put(rt, b"bad\n");
         return;
     };
     if below {
-        put(b"-");
+        put(rt, b"-");
     }
-    told(b"", size as u64);
-    put(b"\n");
+    told(rt, b"", size as u64);
+    put(rt, b"\n");
 }
 
 // The class of a Route; a number below zero is none.
-fn class(r: WholeRead) {
+fn class(rt: &impl Print, r: WholeRead) {
     let WholeRead::Is(below, size) = r else {
-        put(b"bad\n");
+        put(rt, b"bad\n");
         return;
     };
     if below {
-        put(b"bad\n");
+        put(rt, b"bad\n");
         return;
     }
     match routes::route_class(size as u64) {
-        RouteClass::UNDEFINED => put(b"undefined\n"),
-        RouteClass::ROUTE => put(b"a route\n"),
-        RouteClass::RETURN => put(b"return\n"),
-        RouteClass::MANUAL_REMOVAL => put(b"manual removal\n"),
-        RouteClass::RESERVED => put(b"reserved\n"),
-        _ => put(b"the line's own\n"),
+        RouteClass::UNDEFINED => put(rt, b"undefined\n"),
+        RouteClass::ROUTE => put(rt, b"a route\n"),
+        RouteClass::RETURN => put(rt, b"return\n"),
+        RouteClass::MANUAL_REMOVAL => put(rt, b"manual removal\n"),
+        RouteClass::RESERVED => put(rt, b"reserved\n"),
+        _ => put(rt, b"the line's own\n"),
     }
 }
 
-fn positive(r: NumberRead) {
+fn positive(rt: &impl Print, r: NumberRead) {
     if r.ok {
-        told(b"", r.millionths);
+        told(rt, b"", r.millionths);
         if 0 < r.decimals {
-            told(b"+", r.decimals);
+            told(rt, b"+", r.decimals);
         }
-        put(b"\n");
+        put(rt, b"\n");
     } else {
-        put(b"bad\n");
+        put(rt, b"bad\n");
     }
 }
 
-fn yes(is: bool) {
+fn yes(rt: &impl Print, is: bool) {
     if is {
-        put(b"yes\n");
+        put(rt, b"yes\n");
     } else {
-        put(b"no\n");
+        put(rt, b"no\n");
     }
 }
 
@@ -68,21 +68,21 @@ fn scan(start: Scan, v: &[u8], from: usize, to: usize) -> Scan {
 }
 
 // An Int whose bytes stand in two places.
-fn in_two(v: &[u8], cut: usize) {
+fn in_two(rt: &impl Print, v: &[u8], cut: usize) {
     let start = Scan::start();
     let half = scan(start, v, 0, cut);
     let all = scan(half, v, cut, v.len());
-    whole(numerals::int_end(all));
+    whole(rt, numerals::int_end(all));
 }
 
 /// `int`, `number`, `guid`, `version`, `Route`, and `two CUT`: an Int whose first bytes stand apart.
-pub fn worth(letter: u8, v: &[u8], cut: usize) {
+pub fn worth(rt: &impl Print, letter: u8, v: &[u8], cut: usize) {
     match letter {
-        b'i' => whole(numerals::int_of(v)),
-        b'n' => positive(numerals::number_of(v)),
-        b'g' => yes(shapes::is_guid(v)),
-        b'v' => yes(shapes::is_version(v)),
-        b'R' => class(numerals::int_of(v)),
-        _ => in_two(v, cut),
+        b'i' => whole(rt, numerals::int_of(v)),
+        b'n' => positive(rt, numerals::number_of(v)),
+        b'g' => yes(rt, shapes::is_guid(v)),
+        b'v' => yes(rt, shapes::is_version(v)),
+        b'R' => class(rt, numerals::int_of(v)),
+        _ => in_two(rt, v, cut),
     }
 }

@@ -5,43 +5,43 @@ use crate::given::{A, B, C, X};
 use crate::line::wide;
 use lane::{Forecast, Lane, Side, State};
 
-pub fn put(s: &[u8]) {
-    io::write_all(1, s);
+pub fn put(rt: &impl Print, s: &[u8]) {
+    let _ = rt.write_all(s);
 }
 
 /// A word, and the number behind it.
-pub fn told(word: &[u8], n: u64) {
-    put(word);
-    io::print_decimal(1, n);
+pub fn told(rt: &impl Print, word: &[u8], n: u64) {
+    put(rt, word);
+    let _ = rt.print(n);
 }
 
-pub fn small(word: &[u8], n: u8) {
-    told(word, wide(n));
+pub fn small(rt: &impl Print, word: &[u8], n: u8) {
+    told(rt, word, wide(n));
 }
 
-fn side(n: u8) {
+fn side(rt: &impl Print, n: u8) {
     match n {
-        Side::UPSTREAM => put(b"U "),
-        Side::DOWNSTREAM => put(b"D "),
+        Side::UPSTREAM => put(rt, b"U "),
+        Side::DOWNSTREAM => put(rt, b"D "),
         _ => {
-            small(b"side ", n);
-            put(b" ");
+            small(rt, b"side ", n);
+            put(rt, b" ");
         }
     }
 }
 
-pub fn state(n: u8) {
+pub fn state(rt: &impl Print, n: u8) {
     match n {
-        State::NOT_CONNECTED => put(b"NotConnected"),
-        State::DESCRIBED_DOWN => put(b"DescribedDown"),
-        State::IDLE => put(b"Idle"),
-        State::OFFERED => put(b"Offered"),
-        State::READY => put(b"Ready"),
-        State::BOTH => put(b"Both"),
-        State::TRANSPORTING => put(b"Transporting"),
-        State::STOPPED => put(b"Stopped"),
-        State::FINISHED => put(b"Finished"),
-        _ => small(b"state ", n),
+        State::NOT_CONNECTED => put(rt, b"NotConnected"),
+        State::DESCRIBED_DOWN => put(rt, b"DescribedDown"),
+        State::IDLE => put(rt, b"Idle"),
+        State::OFFERED => put(rt, b"Offered"),
+        State::READY => put(rt, b"Ready"),
+        State::BOTH => put(rt, b"Both"),
+        State::TRANSPORTING => put(rt, b"Transporting"),
+        State::STOPPED => put(rt, b"Stopped"),
+        State::FINISHED => put(rt, b"Finished"),
+        _ => small(rt, b"state ", n),
     }
 }
 
@@ -79,9 +79,9 @@ fn mark(id: &[u8]) -> u8 {
     b'?'
 }
 
-fn letter(id: [u8; 36]) {
-    put(b" ");
-    put(&[mark(&id)]);
+fn letter(rt: &impl Print, id: [u8; 36]) {
+    put(rt, b" ");
+    put(rt, &[mark(&id)]);
 }
 
 // How many bytes stand before the zeros at the end.
@@ -98,38 +98,38 @@ fn filled(bytes: &[u8]) -> usize
     0
 }
 
-fn word(s: &[u8]) {
-    put(b" ");
-    put(s);
+fn word(rt: &impl Print, s: &[u8]) {
+    put(rt, b" ");
+    put(rt, s);
 }
 
 // A ForecastId by its length and its bytes, zeros at the end left out; nothing where there is none.
-fn named(length: u8, bytes: &[u8]) {
+fn named(rt: &impl Print, length: u8, bytes: &[u8]) {
     let n = filled(bytes);
     if length == 0 {
         if n == 0 {
             return;
         }
     }
-    small(b" forecast ", length);
-    word(&bytes[..n]);
+    small(rt, b" forecast ", length);
+    word(rt, &bytes[..n]);
 }
 
-fn forecast(f: Forecast) {
+fn forecast(rt: &impl Print, f: Forecast) {
     let bytes = f.bytes;
-    named(f.length, &bytes);
+    named(rt, f.length, &bytes);
 }
 
 /// Side and state, the offered and the running id, the forecast.
-pub fn record(lane: Lane) {
-    side(lane.side);
-    state(lane.state);
+pub fn record(rt: &impl Print, lane: Lane) {
+    side(rt, lane.side);
+    state(rt, lane.state);
     let offered = lane.offered;
-    letter(offered);
+    letter(rt, offered);
     let running = lane.running;
-    letter(running);
+    letter(rt, running);
     let kept = lane.forecast;
-    forecast(kept);
+    forecast(rt, kept);
 }
 
 fn same_forecast(a: Forecast, b: Forecast) -> bool {
@@ -157,11 +157,11 @@ fn kept(a: Lane, b: Lane) -> bool {
 }
 
 /// Whether the record stayed as it was.
-pub fn change(before: Lane, after: Lane) {
+pub fn change(rt: &impl Print, before: Lane, after: Lane) {
     if kept(before, after) {
-        put(b", same record");
+        put(rt, b", same record");
     } else {
-        put(b", new record");
+        put(rt, b", new record");
     }
 }
 
@@ -178,25 +178,25 @@ fn untouched(s: &[u8], from: usize) -> bool {
 }
 
 /// How many bytes of the room are written, and whether the others are as they were.
-pub fn room(out: &[u8], count: usize, room: usize) {
-    told(b", written ", count as u64);
-    told(b" of ", room as u64);
+pub fn room(rt: &impl Print, out: &[u8], count: usize, room: usize) {
+    told(rt, b", written ", count as u64);
+    told(rt, b" of ", room as u64);
     if untouched(out, count) {
-        put(b", rest kept");
+        put(rt, b", rest kept");
     } else {
-        put(b", rest changed");
+        put(rt, b", rest changed");
     }
 }
 
 /// The first bytes, in a line of their own.
-pub fn bytes(word: &[u8], s: &[u8], len: usize) {
+pub fn bytes(rt: &impl Print, word: &[u8], s: &[u8], len: usize) {
     if s.len() < len {
         return;
     }
     if len == 0 {
         return;
     }
-    put(word);
-    put(&s[..len]);
-    put(b"\n");
+    put(rt, word);
+    put(rt, &s[..len]);
+    put(rt, b"\n");
 }

@@ -95,12 +95,12 @@ fn kept(l: Lanes, letter: u8, after: After) -> Lanes {
     }
 }
 
-fn answer(refusal: u8, order: u8, before: Lane, after: Lane) {
-    small(b"", refusal);
-    small(b", order ", order);
-    put(b", ");
-    show::record(after);
-    show::change(before, after);
+fn answer(rt: &impl Print, refusal: u8, order: u8, before: Lane, after: Lane) {
+    small(rt, b"", refusal);
+    small(rt, b", order ", order);
+    put(rt, b", ");
+    show::record(rt, after);
+    show::change(rt, before, after);
 }
 
 // Receives in the first bytes of a buffer.
@@ -119,26 +119,26 @@ fn sent(lane: Lane, m: Message, texts: &[u8], out: &mut [u8], room: usize) -> Se
     handover::send(lane, m, texts, &mut out[..room])
 }
 
-fn receive(lane: Lane, s: &[u8], room: usize) -> Lane {
+fn receive(rt: &impl Print, lane: Lane, s: &[u8], room: usize) -> Lane {
     let mut out = [b'~'; ROOM];
     let r = received(lane, s, &mut out, room);
     let after = r.lane;
     let m = r.message;
-    answer(r.refusal, r.order, lane, after);
-    small(b", kind ", m.kind);
-    told(b", place ", r.place as u64);
-    told(b", used ", r.used as u64);
-    show::room(&out, r.written, room);
-    put(b"\n");
-    show::bytes(b"  ", &out, r.written);
+    answer(rt, r.refusal, r.order, lane, after);
+    small(rt, b", kind ", m.kind);
+    told(rt, b", place ", r.place as u64);
+    told(rt, b", used ", r.used as u64);
+    show::room(rt, &out, r.written, room);
+    put(rt, b"\n");
+    show::bytes(rt, b"  ", &out, r.written);
     after
 }
 
-fn arrive(lane: Lane, wire: &[u8], len: usize, room: usize) -> Lane {
+fn arrive(rt: &impl Print, lane: Lane, wire: &[u8], len: usize, room: usize) -> Lane {
     if wire.len() < len {
         return lane;
     }
-    receive(lane, &wire[..len], room)
+    receive(rt, lane, &wire[..len], room)
 }
 
 fn fill(out: &mut [u8]) {
@@ -149,35 +149,42 @@ fn fill(out: &mut [u8]) {
     }
 }
 
-fn send(lane: Lane, m: Message, texts: &[u8], wire: &mut [u8], room: usize) -> After {
+fn send(
+    rt: &impl Print,
+    lane: Lane,
+    m: Message,
+    texts: &[u8],
+    wire: &mut [u8],
+    room: usize,
+) -> After {
     fill(&mut *wire);
     let r = sent(lane, m, texts, &mut *wire, room);
     let after = r.lane;
-    answer(r.refusal, r.order, lane, after);
-    show::room(&*wire, r.written, room);
-    put(b"\n");
+    answer(rt, r.refusal, r.order, lane, after);
+    show::room(rt, &*wire, r.written, room);
+    put(rt, b"\n");
     After {
         lane: after,
         sent: r.written,
     }
 }
 
-fn lost(lane: Lane) -> Lane {
+fn lost(rt: &impl Print, lane: Lane) -> Lane {
     let after = lane.lost();
-    show::record(after);
-    show::change(lane, after);
-    put(b"\n");
+    show::record(rt, after);
+    show::change(rt, lane, after);
+    put(rt, b"\n");
     after
 }
 
-fn set(lane: Lane) -> Lane {
-    show::record(lane);
-    put(b"\n");
+fn set(rt: &impl Print, lane: Lane) -> Lane {
+    show::record(rt, lane);
+    put(rt, b"\n");
     lane
 }
 
 // The lane that a call leads to; what it names begins at a place.
-fn step(l: Lanes, s: &[u8], at: usize, v: &[u8], wire: &mut [u8]) -> After
+fn step(rt: &impl Print, l: Lanes, s: &[u8], at: usize, v: &[u8], wire: &mut [u8]) -> After
     requires { at ≤ 100 }
 {
     let lane = named(l, byte(s, at));
@@ -185,21 +192,21 @@ fn step(l: Lanes, s: &[u8], at: usize, v: &[u8], wire: &mut [u8]) -> After
     let room = n.value as usize;
     let sent = l.sent;
     match byte(s, 0) {
-        b's' => send(lane, message(s, n.next + 1), v, wire, room),
+        b's' => send(rt, lane, message(s, n.next + 1), v, wire, room),
         b'a' => After {
-            lane: arrive(lane, &*wire, sent, room),
+            lane: arrive(rt, lane, &*wire, sent, room),
             sent,
         },
         b'r' => After {
-            lane: receive(lane, v, room),
+            lane: receive(rt, lane, v, room),
             sent,
         },
         b'l' => After {
-            lane: lost(lane),
+            lane: lost(rt, lane),
             sent,
         },
         _ => After {
-            lane: set(record(s, at + 2, v)),
+            lane: set(rt, record(s, at + 2, v)),
             sent,
         },
     }
@@ -217,11 +224,11 @@ fn changes(s: &[u8], at: usize) -> u8 {
 }
 
 /// Plays the call of a line.
-pub fn play(l: Lanes, s: &[u8], v: &[u8], wire: &mut [u8]) -> Lanes {
+pub fn play(rt: &impl Print, l: Lanes, s: &[u8], v: &[u8], wire: &mut [u8]) -> Lanes {
     let at = find(s, 0, b' ');
     if 99 < at {
         return l;
     }
-    let after = step(l, s, at + 1, v, wire);
+    let after = step(rt, l, s, at + 1, v, wire);
     kept(l, changes(s, at + 1), after)
 }

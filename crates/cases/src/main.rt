@@ -3,12 +3,16 @@
 // behind a tab: `\xHH` is one byte, and `\{N}` makes the next byte N of them.
 #![tactic(auto)]
 
+ghost use Rattle.std.specs.Prelude.{◌≤◌, length};
+
 mod calls;
 
 use calls::Lanes;
 use case_asks::asks;
 use case_words::line;
 use case_words::show::put;
+use std::alloc::AllocError;
+use std::io::Read;
 
 // The part of a line that is written again: all of it where a number is read.
 fn shown(s: &[u8], tab: usize) -> usize {
@@ -18,11 +22,11 @@ fn shown(s: &[u8], tab: usize) -> usize {
     }
 }
 
-fn first(s: &[u8], len: usize) {
+fn first(rt: &impl Print, s: &[u8], len: usize) {
     if s.len() < len {
         return;
     }
-    put(&s[..len]);
+    put(rt, &s[..len]);
 }
 
 // The bytes behind the tab, if there is one.
@@ -35,41 +39,41 @@ fn behind(s: &[u8], tab: usize, out: &mut [u8]) -> usize {
 }
 
 // One call, of which v are the first bytes.
-fn call(l: Lanes, s: &[u8], v: &[u8], len: usize, wire: &mut [u8]) -> Lanes {
+fn call(rt: &impl Print, l: Lanes, s: &[u8], v: &[u8], len: usize, wire: &mut [u8]) -> Lanes {
     if v.len() < len {
         return l;
     }
     match line::byte(s, 0) {
-        b'a' | b'l' | b'p' | b'r' | b's' => calls::play(l, s, &v[..len], wire),
+        b'a' | b'l' | b'p' | b'r' | b's' => calls::play(rt, l, s, &v[..len], wire),
         _ => {
-            asks::ask(s, &v[..len]);
+            asks::ask(rt, s, &v[..len]);
             l
         }
     }
 }
 
-fn case(l: Lanes, s: &[u8], out: &mut [u8], wire: &mut [u8]) -> Lanes {
+fn case(rt: &impl Print, l: Lanes, s: &[u8], out: &mut [u8], wire: &mut [u8]) -> Lanes {
     let tab = line::find(s, 0, b'\t');
-    first(s, shown(s, tab));
+    first(rt, s, shown(s, tab));
     if s.len() == 0 {
-        put(b"\n");
+        put(rt, b"\n");
         return l;
     }
     if s[0] == b'#' {
-        put(b"\n");
+        put(rt, b"\n");
         return l;
     }
-    put(b": ");
+    put(rt, b": ");
     let len = behind(s, tab, &mut *out);
-    call(l, &s[..tab], &*out, len, wire)
+    call(rt, l, &s[..tab], &*out, len, wire)
 }
 
-fn run(text: &[u8], out: &mut [u8], wire: &mut [u8]) {
+fn run(rt: &impl Print, text: &[u8], out: &mut [u8], wire: &mut [u8]) {
     let mut lanes = calls::start();
     let mut at: usize = 0;
     while at < text.len() {
         let end = line::find(text, at, b'\n');
-        lanes = case(lanes, &text[at..end], &mut *out, &mut *wire);
+        lanes = case(rt, lanes, &text[at..end], &mut *out, &mut *wire);
         if 1000000 < end {
             return;
         }
@@ -77,10 +81,34 @@ fn run(text: &[u8], out: &mut [u8], wire: &mut [u8]) {
     }
 }
 
-fn main() {
-    let mut text = [0u8; 524288];
+// Fills a buffer from its start: how many bytes the input had, or as many as there is room for. A read that fails ends the input.
+fn read_full<R: Read>(input: &mut R, buffer: &mut [u8]) -> usize
+    ensures { result ≤ length buffer.new }
+{
+    let mut done: usize = 0;
+    while done < buffer.len() {
+        let n = match input.read(&mut buffer[done..]) {
+            Ok(n) => n,
+            Err(_) => 0,
+        };
+        if n == 0 {
+            break;
+        }
+        done += n;
+    }
+    done
+}
+
+// Runs the cases that are read into the first buffer.
+fn answer(rt: &(impl Print + Input), text: &mut [u8], out: &mut [u8], wire: &mut [u8]) {
+    let n = read_full(&mut rt.reader(), &mut *text);
+    run(rt, &text[..n], out, wire);
+}
+
+fn main(rt: HostRuntime) -> Result<(), AllocError> {
+    let mut text = vec![in rt.alloc(); 0u8; 524288]?;
     let mut out = [0u8; 70000];
     let mut wire = [b'~'; 600];
-    let n = io::read_full(0, &mut text);
-    run(&text[..n], &mut out, &mut wire);
+    answer(&rt, &mut text, &mut out, &mut wire);
+    Ok(())
 }
