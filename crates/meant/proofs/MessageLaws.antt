@@ -5,7 +5,7 @@ use mathlib.Core.Bool.{Bool, true, ◌&&◌}
 use Prim.Native.Nat.{ℕ}
 use lib.Dec.{eqb}
 use borrow.Author.Tests.{eqb-true}
-use Rattle.grammar.specs.Bytes.{Bytes, text, within, digit}
+use Rattle.grammar.specs.Bytes.{Bytes, within, digit}
 use Rattle.grammar.specs.Name.{letter, name_start, name_byte, Name}
 use Rattle.grammar.specs.Tree.{Tree, tree, no_trees, tree_then}
 use Rattle.grammar.specs.Filler.{bits_end}

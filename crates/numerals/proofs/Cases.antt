@@ -1,6 +1,6 @@
 -- The last arm of a match: the definitions at all other variants.
 use mathlib.Core.Path.{◌≡◌, refl}
-use mathlib.Core.Bool.{Bool, true, false}
+use mathlib.Core.Bool.{Bool, false}
 use Prim.Native.Nat.{ℕ}
 use Rattle.number.specs.Positive.{no_number, number_read}
 use Rattle.numerals.specs.Scan.{inside, broken, int_body_end, number_body_end, body_decimals, body_end}

@@ -11,7 +11,7 @@ use borrow.Author.Tests.{le-leb, lt-leb, eq-eqb, ne_eqb}
 use Rattle.scan.proofs.Classes.{ranged}
 use Rattle.model.specs.Tests.{in_range, range_in}
 use Rattle.model.specs.Characters.{next6, cont, second3, third3, second4, plain_byte, char_p}
-use Rattle.model.proofs.Characters.{low, high, second3_ranges, third3_ranges, second4_ranges}
+use Rattle.model.proofs.Characters.{second3_ranges, third3_ranges, second4_ranges}
 use Rattle.exact.specs.Exact.{Reader}
 use Rattle.exact.specs.Chain.{ret_p, clash}
 use Rattle.exact.specs.Byte.{on_p}

@@ -18,7 +18,7 @@ use Rattle.exact.specs.Exact.{Out, bad, Reader}
 use Rattle.exact.specs.Chain.{clash}
 use Rattle.exact.specs.Byte.{pick, lit_p}
 use Rattle.exact.specs.Token.{token_p}
-use Rattle.grammar.specs.Bytes.{Bytes, within, digit, every, non_empty}
+use Rattle.grammar.specs.Bytes.{Bytes, within, digit, every}
 use Rattle.grammar.specs.Character.{is_char}
 use Rattle.grammar.specs.Reference.{hex_digit, worth, number}
 use Rattle.pieces.specs.Says.{Says}

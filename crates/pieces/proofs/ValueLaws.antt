@@ -12,7 +12,7 @@ use lib.Dec.{eqb, leb, ltb}
 use borrow.Author.Tests.{leb-true, le-leb, eq-eqb, ne_eqb, not-true, eqb-false}
 use Rattle.model.specs.Tests.{and_left, and_right}
 use Rattle.model.specs.Characters.{plain_byte, char_p}
-use Rattle.model.proofs.Characters.{low, high, char_low}
+use Rattle.model.proofs.Characters.{char_low}
 use Rattle.model.specs.References.{ref_p}
 use Rattle.model.specs.Values.{Acc, item_p, turn_p, value_p}
 use Rattle.model.proofs.Values.{quote_is, value_eq}
@@ -22,7 +22,7 @@ use Rattle.exact.specs.Byte.{eqb-true}
 use Rattle.exact.specs.Loop.{again, onward, loop_p}
 use Rattle.grammar.specs.Bytes.{Bytes, within}
 use Rattle.grammar.specs.Character.{is_char}
-use Rattle.grammar.specs.Reference.{amp, lt, read_reference}
+use Rattle.grammar.specs.Reference.{read_reference}
 use Rattle.grammar.specs.Value.{Item, raw, ref, banned}
 use Rattle.pieces.specs.Says.{Known, Says, step_of}
 use Rattle.pieces.specs.Parts.{code_point, IsQuote, InValue, Plain, Ran}

@@ -7,7 +7,7 @@ use native.Mathlib.Omega.{arith}
 use lib.Dec.{eqb}
 use borrow.Author.Tests.{eqb-true}
 use Rattle.lane.specs.Chart.{is_free, Sent as IsSent, chart, next}
-use Rattle.lane.specs.Record.{carries_own, step_out, sent}
+use Rattle.lane.specs.Record.{carries_own, step_out}
 use Rattle.lane.proofs.Laws.{by_rows_lem, is_true, next_cases, sent_by}
 use Rattle.lane.specs.declared.Lane.{Lane}
 use Rattle.lane.specs.declared.Moved.{Moved}
@@ -16,7 +16,6 @@ use Rattle.lane.specs.declared.chart.Step.TheVariants.{To, NoTransition}
 use Rattle.grammar.specs.Bytes.{Bytes}
 use Rattle.message.specs.declared.cells.Message.{Message}
 use Rattle.table.specs.Table.{table, is_kind}
-use Rattle.meant.specs.Writes as emits
 use Rattle.meant.specs.Events.{event_sent}
 use Rattle.promises.specs.Sending.{moved_by}
 

@@ -23,7 +23,7 @@ use Rattle.decodes.specs.declared.decode.Length.{Length}
 use Rattle.decodes.specs.declared.decode.Length.TheVariants.{Is as IsLong, Not}
 use Rattle.value.proofs.Theorems.{loose_one}
 use Rattle.table.specs.Table.{words, some_words, whole, guid, version, positive}
-use Rattle.table.specs.Says.{Value, Result, present, refused, an_int, a_text, an_id, millionths, TOO_LONG, limited, when, ranged, measured, judged, refusal_in}
+use Rattle.table.specs.Says.{Value, Result, present, refused, an_int, a_text, an_id, TOO_LONG, limited, when, ranged, measured, judged, refusal_in}
 use Rattle.reads.specs.Kept.{as_cell, int_of, size_of, Judges}
 use Rattle.reads.specs.declared.tried.Tried.{Tried}
 

@@ -20,7 +20,6 @@ use Rattle.exact.specs.Token.{token_p}
 use Rattle.grammar.specs.Bytes.{Bytes, every, non_empty}
 use Rattle.grammar.specs.Glue.{is_glue}
 use Rattle.grammar.specs.Name.{name_start, name_byte, shaped}
-use Rattle.grammar.specs.Reference.{lt}
 use Rattle.scan.specs.Pieces.{Got, GotTok, Walked, Skipped, byte_p, word_p, glue_tok, name_tok}
 use Rattle.scan.specs.declared.Step.TheVariants.{Done, Open, Bad}
 

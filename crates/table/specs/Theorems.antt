@@ -2,8 +2,6 @@
 use Rattle.std.specs.Prelude.{◌≡◌, refl, List, [], ◌∷◌, ◌++◌, ◌↔◌, Bool, true, false, ◌&&◌, ◌||◌, cond, ℕ, zero, suc, ◌+◌, ◌≤◌, ◌<◌, length, eqb, leb}
 use Rattle.std.proofs.Common.{sym, ap, subst, ◌∙◌, arith, eqb-true, leb-true, le-leb}
 use Rattle.std.proofs.lemmas.Bool.{eqb-false}
-use Rattle.lane.specs.StepForStep.{after}
-use Rattle.number.specs.Bytes.{before}
 use Rattle.grammar.specs.Bytes.{Bytes, same, within}
 use Rattle.grammar.specs.Tree.{Tree, Forest, no_trees, tree_then}
 use Rattle.table.specs.Table.{Need, required, optional, required_with, ignored, Row, Entry, table, is_kind_in, is_kind, rows_in, rows_of, settled_need, settled}

@@ -15,10 +15,9 @@ use Rattle.scan.proofs.Chain.{then_done, then_more, then_bad, Fails, never, tok,
 use Rattle.model.specs.Tests.{and_left, and_right}
 use Rattle.model.specs.Attributes.{T, turn_p, State, end_p, attr_p, head_p}
 use Rattle.model.proofs.Attributes.{head_eq}
-use Rattle.model.proofs.Answers.{ended}
 use Rattle.exact.specs.Exact.{Out}
 use Rattle.exact.specs.Chain.{if_p}
-use Rattle.exact.specs.Byte.{pick, starts, choice_p}
+use Rattle.exact.specs.Byte.{pick, choice_p}
 use Rattle.exact.specs.Loop.{onward, loop_p}
 use Rattle.grammar.specs.Bytes.{Bytes, non_empty}
 use Rattle.grammar.specs.Limits.{ATTRIBUTES}

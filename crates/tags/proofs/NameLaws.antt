@@ -18,8 +18,7 @@ use Rattle.exact.specs.Exact.{Out, bad, Reader}
 use Rattle.exact.specs.Chain.{clash}
 use Rattle.exact.specs.Byte.{pick, other}
 use Rattle.exact.specs.Token.{token_p}
-use Rattle.exact.specs.Limit.{split}
-use Rattle.grammar.specs.Bytes.{Bytes, within, digit, every, non_empty, among, fits}
+use Rattle.grammar.specs.Bytes.{Bytes, within, digit, every, non_empty, among}
 use Rattle.grammar.specs.Glue.{is_glue}
 use Rattle.grammar.specs.Name.{letter, name_start, name_byte, shaped}
 use Rattle.tags.specs.Names.{Part, Run, Named, Marked, Ready, Meets, NameTo, Fresh, FreshSays}

@@ -5,7 +5,6 @@ use Prim.Native.Nat.{ℕ, ◌+◌, ◌*◌, ◌≤◌}
 use native.Mathlib.Omega.{arith}
 use lib.ListN.{length, length-append, drop, length-drop, set, length-set}
 use lib.Seq.{set_at, drop-drop}
-use Rattle.model.proofs.References.{later}
 use Rattle.grammar.specs.Attribute.{Attribute, spell_attribute, spell_attributes}
 use Rattle.grammar.specs.Places.{name_at, name_end, value_at, value_end}
 use Rattle.tags.specs.Places.{places, stored}

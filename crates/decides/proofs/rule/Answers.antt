@@ -1,6 +1,6 @@
 -- The invariant: no row so far is refused, so what is left rules as all rows do.
 use mathlib.Core.Path.{refl, sym, subst}
-use Prim.Native.Nat.{◌+◌, ◌-◌}
+use Prim.Native.Nat.{◌+◌}
 use native.Mathlib.Omega.{arith}
 use Rattle.rows.specs.Coding.{Sound}
 use Rattle.rows.specs.declared.data.Row.{Row as Coded}

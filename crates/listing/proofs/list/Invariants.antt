@@ -1,5 +1,4 @@
 use mathlib.Core.Path.{◌≡◌}
-use Prim.Native.Nat.{◌-◌}
 use lib.ListN.{length}
 use Rattle.listing.proofs.ListLaws.{Going}
 use Rattle.listing.proofs.list.Given as goal

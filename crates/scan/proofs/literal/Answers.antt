@@ -1,4 +1,3 @@
-use Prim.Native.Nat.{◌-◌}
 use native.Mathlib.Omega.{arith}
 use Rattle.scan.proofs.Walk.{rest_none, rest_end, rest_miss, rest_more, rest_done}
 use Rattle.scan.proofs.literal.Goals as goal

@@ -1,5 +1,4 @@
 use mathlib.Core.Path.{sym, ◌∙◌}
-use Prim.Native.Nat.{◌-◌}
 use native.Mathlib.Omega.{arith}
 use Rattle.scan.proofs.Walk.{name_open, name_bad, name_start_lem, name_more, name-next, name_done, name-full}
 use Rattle.scan.proofs.name.Goals as goal

@@ -1,7 +1,5 @@
 use mathlib.Core.Path.{sym, ◌∙◌}
-use Prim.Native.Nat.{◌-◌}
 use native.Mathlib.Omega.{arith}
-use Rattle.grammar.specs.Glue.{is_glue}
 use Rattle.scan.proofs.Walk.{glue_start, glue_next}
 use Rattle.scan.proofs.skip_glue.Goals as goal
 

@@ -1,5 +1,4 @@
 -- The invariant: zeros up to here.
-use Prim.Native.Nat.{◌-◌}
 use Rattle.cells.proofs.NumberLaws.{cleared_none, cleared_more, cleared_all}
 use Rattle.cells.proofs.numbers.clear.Goals as goal
 

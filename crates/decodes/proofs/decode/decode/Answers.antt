@@ -1,6 +1,6 @@
 -- The invariant: what was read up to here stands first, if there is room for it.
 use mathlib.Core.Path.{ap}
-use Prim.Native.Nat.{ℕ, ◌+◌, ◌-◌}
+use Prim.Native.Nat.{ℕ, ◌+◌}
 use native.Mathlib.Omega.{arith}
 use Rattle.decodes.proofs.DecodeLaws.{taken, counted_room, filled_none, filled_more, filled_end, filled_fail}
 use Rattle.decodes.proofs.decode.decode.Goals as goal

@@ -1,5 +1,4 @@
 -- The invariant: the first k bytes are put.
-use Prim.Native.Nat.{◌-◌}
 use native.Mathlib.Omega.{arith}
 use Rattle.decodes.proofs.DecodeLaws.{putting_none, putting_more, put_in_room, no_put}
 use Rattle.decodes.proofs.decode.put_utf8.Goals as goal

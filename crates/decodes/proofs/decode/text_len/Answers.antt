@@ -1,5 +1,4 @@
 -- The invariant: so many bytes were read up to here.
-use Prim.Native.Nat.{◌-◌}
 use native.Mathlib.Omega.{arith}
 use Rattle.decodes.proofs.DecodeLaws.{taken, counted_none, counted_more, counted_room, counted_end, counted_fail}
 use Rattle.decodes.proofs.decode.text_len.Goals as goal

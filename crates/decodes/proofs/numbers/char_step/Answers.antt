@@ -1,6 +1,5 @@
 -- The invariant: the state after the first k bytes of the character.
 use mathlib.Core.Path.{refl}
-use Prim.Native.Nat.{◌-◌}
 use native.Mathlib.Omega.{arith}
 use Rattle.numerals.proofs.CodeLaws.{passed_none, passed_more, passed_all}
 use Rattle.decodes.proofs.numbers.char_step.Goals as goal

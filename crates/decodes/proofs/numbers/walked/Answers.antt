@@ -1,5 +1,4 @@
 -- The invariant: the state after what was read up to here.
-use Prim.Native.Nat.{◌-◌}
 use native.Mathlib.Omega.{arith}
 use Rattle.decodes.proofs.DecodeLaws.{taken}
 use Rattle.decodes.proofs.NumberLaws.{scanned_none, scanned_next, scanned_end, scanned_fail}

@@ -1,5 +1,4 @@
 -- The invariant: the bytes from here on say it.
-use Prim.Native.Nat.{◌-◌}
 use native.Mathlib.Omega.{arith}
 use Rattle.decodes.proofs.TestLaws.{every_hit, every_miss, every_end, denied}
 use Rattle.decodes.proofs.tests.is_as_read.Goals as goal

@@ -1,6 +1,5 @@
 -- The invariant: the bytes from here on say it.
 use mathlib.Core.Path.{sym, ◌∙◌}
-use Prim.Native.Nat.{◌-◌}
 use native.Mathlib.Omega.{arith}
 use Rattle.decodes.proofs.TestLaws.{every_hit, every_miss, every_end}
 use Rattle.decodes.proofs.tests.is_plain.Goals as goal

@@ -1,9 +1,7 @@
 -- `righted` is the definition's. The invariant: the id's first bytes are put down, with zeros behind.
 use mathlib.Core.Path.{◌≡◌, refl, ◌∙◌}
-use Prim.Native.Nat.{◌-◌}
 use native.Mathlib.Omega.{arith}
 use borrow.Author.Rules.{rules}
-use lib.ListN.{length}
 use Rattle.lane.proofs.IdLaws.{padded_more, righted_none, righted_over, righted_in}
 use Rattle.moves.proofs.ids.righted.Goals as goal
 

@@ -1,6 +1,5 @@
 -- `same_bytes` compares two ids. The invariant: what is left of the two decides.
 use mathlib.Core.Path.{refl, ◌∙◌, sym}
-use Prim.Native.Nat.{◌-◌}
 use native.Mathlib.Omega.{arith}
 use Rattle.moves.proofs.Bytes.{same_step, same_not, same_end, same_long}
 use Rattle.moves.proofs.ids.same_bytes.Goals as goal

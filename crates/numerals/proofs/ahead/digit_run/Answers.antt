@@ -1,6 +1,5 @@
 -- The invariant: the digits behind take each state to a later one.
 use mathlib.Core.Path.{sym, ◌∙◌}
-use Prim.Native.Nat.{◌-◌}
 use native.Mathlib.Omega.{arith}
 use Rattle.numerals.proofs.AheadLaws.{runs_none, runs_more}
 use Rattle.numerals.proofs.ahead.digit_run.Goals as goal

@@ -1,6 +1,5 @@
 -- The loop keeps the state after the bytes passed.
 use mathlib.Core.Path.{refl}
-use Prim.Native.Nat.{◌-◌}
 use Rattle.numerals.specs.Scan.{start}
 use Rattle.numerals.proofs.CodeLaws.{passed_more, passed_all}
 use Rattle.numerals.proofs.ahead.stepped.Goals as goal

@@ -1,6 +1,5 @@
 -- The invariant: the digits up to `i` make `v`, and `left` more may follow.
 use mathlib.Core.Path.{sym, ◌∙◌}
-use Prim.Native.Nat.{◌-◌}
 use Rattle.pieces.proofs.NumeralLaws.{digit_max, digits_start, digits_open, digits_other, digits_done, digits_none, digits-full, digits-dead, digits-next}
 use Rattle.pieces.proofs.references.number.Goals as goal
 

@@ -1,5 +1,4 @@
 -- The invariant: what lies behind is plain, so the value's loop goes on at `i`.
-use Prim.Native.Nat.{◌-◌}
 use native.Mathlib.Omega.{arith}
 use Rattle.pieces.proofs.ValueLaws.{ran_none, ran_many}
 use Rattle.pieces.proofs.values.plain_eights.Goals as goal

@@ -1,6 +1,5 @@
 -- The invariant: what lies behind is plain, so the value's loop goes on at `i`.
 use mathlib.Core.Path.{sym, ◌∙◌}
-use Prim.Native.Nat.{◌-◌}
 use Rattle.pieces.proofs.ValueLaws.{ran_more}
 use Rattle.pieces.proofs.values.plain_run.Goals as goal
 

@@ -1,5 +1,4 @@
 -- The invariant: the value goes on at `i` after the items read so far.
-use Prim.Native.Nat.{◌-◌}
 use native.Mathlib.Omega.{arith}
 use Rattle.pieces.proofs.Answers.{known}
 use Rattle.pieces.proofs.ValueLaws.{value_start, value-end, value-ran, value-stop, value-fail, value-next}

@@ -1,5 +1,4 @@
 -- The invariant: the first i bytes are put.
-use Prim.Native.Nat.{◌-◌}
 use native.Mathlib.Omega.{arith}
 use Rattle.printing.proofs.PutLaws.{putting_none, putting_more, putting_end}
 use Rattle.printing.proofs.bytes.put.Goals as goal

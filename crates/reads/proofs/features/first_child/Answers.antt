@@ -1,6 +1,5 @@
 -- The invariant: what is left of the content says what all of it says.
 use mathlib.Core.Path.{sym, ◌∙◌}
-use Prim.Native.Nat.{◌-◌}
 use native.Mathlib.Omega.{arith}
 use Rattle.reads.proofs.ChildLaws.{found_ahead, none_inside, search_starts, search_ends, search_finds, search_goes_on}
 use Rattle.reads.proofs.features.first_child.Goals as goal

@@ -1,6 +1,5 @@
 -- The invariant: the first bytes are put.
 use mathlib.Core.Path.{refl}
-use Prim.Native.Nat.{◌-◌}
 use native.Mathlib.Omega.{arith}
 use Rattle.decodes.proofs.DecodeLaws.{putting_none}
 use Rattle.decodes.proofs.IdLaws.{copy_more, copy_end}

@@ -1,5 +1,4 @@
 -- The invariant: the rows from here on hold the attributes that are left, and the place is theirs.
-use Prim.Native.Nat.{◌-◌}
 use Rattle.reads.proofs.FindLaws.{left_all, search_hit, search_miss, none_left}
 use Rattle.reads.proofs.find.search.Goals as goal
 

@@ -1,6 +1,5 @@
 -- The invariant: no byte up to here is below the least.
 use mathlib.Core.Path.{sym}
-use Prim.Native.Nat.{◌-◌}
 use borrow.Author.Tests.{eqb-true}
 use Rattle.exact.specs.Chain.{clash}
 use Rattle.reads.proofs.IdLaws.{clear_none, clear_more, clear_end}

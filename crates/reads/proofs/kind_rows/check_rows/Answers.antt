@@ -1,6 +1,6 @@
 -- The invariant: what is tried with what is left says what all rows say.
 use mathlib.Core.Path.{sym, subst}
-use Prim.Native.Nat.{◌+◌, ◌-◌}
+use Prim.Native.Nat.{◌+◌}
 use native.Mathlib.Omega.{arith}
 use Rattle.rows.specs.Coding.{Sound}
 use Rattle.rows.specs.declared.data.Row.{Row as Coded}

@@ -1,6 +1,5 @@
 -- The invariant: the bytes from here on say it.
 use mathlib.Core.Path.{refl}
-use Prim.Native.Nat.{◌-◌}
 use native.Mathlib.Omega.{arith}
 use Rattle.rows.proofs.SameLaws.{same_longer, same_next, same_miss, same_end}
 use Rattle.rows.proofs.same.same.Goals as goal

@@ -1,5 +1,4 @@
 -- The definition on every slice: the rest of the bytes must fill the rest of the places.
-use Prim.Native.Nat.{◌-◌}
 use Rattle.shapes.proofs.GuidLaws.{stands_none, stands_more, stands_not, stands_end}
 use Rattle.shapes.proofs.guid.is_filled.Goals as goal
 

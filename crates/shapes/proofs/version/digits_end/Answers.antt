@@ -1,6 +1,5 @@
 -- The digits from here on reach as far as those from the start.
 use mathlib.Core.Path.{sym, ◌∙◌}
-use Prim.Native.Nat.{◌-◌}
 use Rattle.shapes.proofs.VersionLaws.{reach_more, reach_not, reach_end}
 use Rattle.shapes.proofs.version.digits_end.Goals as goal
 

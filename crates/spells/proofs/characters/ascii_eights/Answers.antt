@@ -1,5 +1,4 @@
 -- The invariant: whole characters lie behind.
-use Prim.Native.Nat.{◌-◌}
 use native.Mathlib.Omega.{arith}
 use Rattle.spells.proofs.TextLaws.{passes_none, passes_on}
 use Rattle.spells.proofs.characters.ascii_eights.Goals as goal

@@ -1,5 +1,4 @@
 -- The invariant: v is a text if and only if what is left of it is one.
-use Prim.Native.Nat.{◌-◌}
 use native.Mathlib.Omega.{arith}
 use Rattle.pieces.proofs.Answers.{known}
 use Rattle.spells.proofs.TextLaws.{along_start, along_next, along_end, along_fail}

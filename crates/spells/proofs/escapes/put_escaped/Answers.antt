@@ -1,5 +1,4 @@
 -- The invariant: the first i bytes of the text are written.
-use Prim.Native.Nat.{◌-◌}
 use native.Mathlib.Omega.{arith}
 use Rattle.spelling.specs.Written.{escape}
 use Rattle.printing.specs.Writes.{wrote_none}

@@ -1,5 +1,4 @@
 -- The invariant: what lies behind is written as it is.
-use Prim.Native.Nat.{◌-◌}
 use native.Mathlib.Omega.{arith}
 use Rattle.spells.proofs.RunLaws.{kept_none, kept_on}
 use Rattle.spells.proofs.escapes.stay_eights.Goals as goal

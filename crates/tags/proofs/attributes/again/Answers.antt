@@ -1,6 +1,5 @@
 -- The invariant: of all earlier names those that are left decide.
 use mathlib.Core.Path.{sym, ◌∙◌}
-use Prim.Native.Nat.{◌-◌}
 use native.Mathlib.Omega.{arith}
 use Rattle.tags.proofs.WalkLaws.{walk_start, walk_in, walk_none, walk_found, walk_equals, walk_opens, walk_on}
 use Rattle.tags.proofs.attributes.again.Goals as goal

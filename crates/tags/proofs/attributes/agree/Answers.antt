@@ -1,5 +1,4 @@
 -- The invariant: so many bytes are the same.
-use Prim.Native.Nat.{◌-◌}
 use native.Mathlib.Omega.{arith}
 use Rattle.tags.proofs.CompareLaws.{agree_more}
 use Rattle.tags.proofs.attributes.agree.Goals as goal

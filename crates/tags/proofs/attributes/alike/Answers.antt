@@ -1,5 +1,4 @@
 -- The invariant: the first `k` bytes agree, so the rest decides.
-use Prim.Native.Nat.{◌-◌}
 use native.Mathlib.Omega.{arith}
 use Rattle.tags.proofs.CompareLaws.{alike_many, alike_done, alike_miss, alike_next}
 use Rattle.tags.proofs.attributes.alike.Goals as goal

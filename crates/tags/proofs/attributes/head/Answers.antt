@@ -1,6 +1,5 @@
 -- The invariant: so many attributes are read, and a table that is lent has their places.
 use mathlib.Core.Path.{refl, sym, ◌∙◌}
-use Prim.Native.Nat.{◌-◌}
 use native.Mathlib.Omega.{arith}
 use Rattle.scan.proofs.Chain.{known_tok}
 use Rattle.tags.proofs.HeadLaws.{head_start, head_glue_fails, head_ends, head-ready, head-attribute-fails, head-order, head-next}

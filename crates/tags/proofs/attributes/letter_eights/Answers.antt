@@ -1,5 +1,4 @@
 -- The invariant: the bytes up to `i` begin a name that is not full.
-use Prim.Native.Nat.{◌-◌}
 use native.Mathlib.Omega.{arith}
 use Rattle.tags.proofs.NameLaws.{part_first, part_many}
 use Rattle.tags.proofs.attributes.letter_eights.Goals as goal

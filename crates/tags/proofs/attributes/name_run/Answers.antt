@@ -1,6 +1,5 @@
 -- The invariant: the bytes up to `i` begin a name that is not full.
 use mathlib.Core.Path.{sym, ◌∙◌}
-use Prim.Native.Nat.{◌-◌}
 use native.Mathlib.Omega.{arith}
 use Rattle.tags.proofs.NameLaws.{part_more, run_end, run_stop}
 use Rattle.tags.proofs.attributes.name_run.Goals as goal

@@ -1,5 +1,4 @@
 -- The invariant: none of the bytes so far is the one that is looked for.
-use Prim.Native.Nat.{◌-◌}
 use native.Mathlib.Omega.{arith}
 use Rattle.tags.proofs.CompareLaws.{lacks_more, lacks_one}
 use Rattle.tags.proofs.attributes.next_equals.Goals as goal

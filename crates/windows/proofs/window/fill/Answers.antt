@@ -1,5 +1,5 @@
 -- The invariant: bytes behind the first ones, which are kept.
-use Rattle.std.proofs.Common.{◌-◌, sym, refl, ◌∙◌, arith, rules}
+use Rattle.std.proofs.Common.{sym, refl, ◌∙◌, arith, rules}
 use Rattle.windows.proofs.WindowLaws.{reading_on, reading_less, filled_last, filled_end, filled_full}
 use Rattle.windows.proofs.window.fill.Goals as goal
 

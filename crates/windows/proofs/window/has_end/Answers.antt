@@ -1,5 +1,4 @@
 -- The invariant: what is left has a `>` if all have.
-use Rattle.std.proofs.Common.{◌-◌}
 use Rattle.windows.proofs.WindowLaws.{end_here, end_later, no_end}
 use Rattle.windows.proofs.window.has_end.Goals as goal
 

@@ -1,5 +1,5 @@
 use Rattle.windows.proofs.WindowLaws.{move_start, move_one, moved_all}
-use Rattle.std.proofs.Common.{◌-◌, arith}
+use Rattle.std.proofs.Common.{arith}
 use Rattle.windows.proofs.window.move_to_front.Goals as goal
 
 pub loop-i-init : goal.loop-i-init

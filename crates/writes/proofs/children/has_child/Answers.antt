@@ -1,7 +1,7 @@
 -- The invariant: a child is in the rows from i on, or there is none.
 use mathlib.Core.Path.{refl, sym, ap, ◌∙◌}
 use mathlib.Core.List.{List}
-use Prim.Native.Nat.{◌-◌, ◌+◌, ◌*◌}
+use Prim.Native.Nat.{◌+◌, ◌*◌}
 use Rattle.grammar.specs.Bytes.{non_empty}
 use Rattle.table.specs.Table.{Row}
 use Rattle.message.specs.Cells.{cell_at}

@@ -1,6 +1,6 @@
 -- The invariant: the attributes of the rows before i are put down, those from i on are left.
 use mathlib.Core.List.{List}
-use Prim.Native.Nat.{◌-◌, ◌+◌}
+use Prim.Native.Nat.{◌+◌}
 use Rattle.table.specs.Table.{Row}
 use Rattle.rows.proofs.CodingLaws.{few_rows}
 use Rattle.writes.specs.Rows.{row_bytes, attributes_from}

@@ -1,7 +1,7 @@
 -- The invariant: the rows before i do not refuse.
 use mathlib.Core.Path.{sym, ap, ◌∙◌}
 use mathlib.Core.List.{List}
-use Prim.Native.Nat.{◌-◌, ◌+◌}
+use Prim.Native.Nat.{◌+◌}
 use Rattle.table.specs.Table.{Row}
 use Rattle.writes.specs.Rows.{refusal_from}
 use Rattle.rows.proofs.CodingLaws.{few_rows}
