@@ -11,7 +11,6 @@ use calls::Lanes;
 use case_asks::asks;
 use case_words::line;
 use case_words::show::put;
-use std::alloc::AllocError;
 use std::io::Read;
 
 // The part of a line that is written again: all of it where a number is read.
@@ -100,15 +99,14 @@ fn read_full<R: Read>(input: &mut R, buffer: &mut [u8]) -> usize
 }
 
 // Runs the cases that are read into the first buffer.
-fn answer(rt: &(impl Print + Input), text: &mut [u8], out: &mut [u8], wire: &mut [u8]) {
+fn answer(rt: &(impl Print + Input), text: &mut [u8; 524288], out: &mut [u8], wire: &mut [u8]) {
     let n = read_full(&mut rt.reader(), &mut *text);
     run(rt, &text[..n], out, wire);
 }
 
-fn main(rt: HostRuntime) -> Result<(), AllocError> {
-    let mut text = vec![in rt.alloc(); 0u8; 524288]?;
+fn main(rt: HostRuntime) {
+    let mut text = [0u8; 524288];
     let mut out = [0u8; 70000];
     let mut wire = [b'~'; 600];
     answer(&rt, &mut text, &mut out, &mut wire);
-    Ok(())
 }

@@ -3,7 +3,7 @@
 ghost use Rattle.std.specs.Prelude.{◌≡◌, ◌+◌, ◌*◌, min};
 ghost use Rattle.number.specs.Bytes.{figure};
 ghost use Rattle.number.specs.Positive.{mark};
-ghost use Rattle.numerals.specs.Scan.{FAR, joined, zeros_more, with_digit, whole_digit, part_digit, part_step, sign_step, whole_step, first_step, power_digit, mark_step, body_step, start, step};
+ghost use Rattle.numerals.specs.Scan.{FAR as TOO_FAR, joined, zeros_more, with_digit, whole_digit, part_digit, part_step, sign_step, whole_step, first_step, power_digit, mark_step, body_step, start, step};
 
 use crate::byte::{figure_of, is_digit};
 use crate::ends::Ends;
@@ -178,7 +178,7 @@ fn first_step(b: u8) -> Body
 
 // The exponent with one more digit, up to the bound.
 fn power_more(e: u64, b: u8) -> u64
-    ensures { result ≡ min FAR (10 * e + figure b) }
+    ensures { result ≡ min TOO_FAR (10 * e + figure b) }
 {
     if e < NEAR {
         let m = 10 * e + figure_of(b) as u64;

@@ -1,6 +1,6 @@
 // Powers of ten on numbers that are told up to the top, and counts up to a bound that no slice reaches.
 ghost use Rattle.std.specs.Prelude.{◌≡◌, ◌+◌, ◌*◌, ◌^◌, min};
-ghost use Rattle.numerals.specs.Scan.{TOP, FAR};
+ghost use Rattle.numerals.specs.Scan.{TOP as TOO_LARGE, FAR as TOO_FAR};
 
 /// The first number with more than 7 digits before the point and 6 behind it.
 pub const TOP: u64 = 10000000000000;
@@ -10,7 +10,7 @@ pub const FAR: u64 = 10000000000000000000;
 
 /// a + b, up to the bound.
 pub fn far(a: u64, b: u64) -> u64
-    ensures { result ≡ min FAR (a + b) }
+    ensures { result ≡ min TOO_FAR (a + b) }
 {
     if FAR <= a {
         return FAR;
@@ -23,7 +23,7 @@ pub fn far(a: u64, b: u64) -> u64
 
 /// n * 10^k, up to the top.
 pub fn shifted(n: u64, k: u64) -> u64
-    ensures { result ≡ min TOP (n * 10 ^ k) }
+    ensures { result ≡ min TOO_LARGE (n * 10 ^ k) }
 {
     if n == 0 {
         return 0;

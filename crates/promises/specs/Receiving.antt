@@ -1,5 +1,5 @@
--- What receiving promises.
-use Rattle.std.specs.Prelude.{◌≡◌, List, [], Bool, true, false, ◌&&◌, cond, ℕ, length, eqb, leb}
+-- What receiving promises. (`take` is for an edit of must-fail/ alone.)
+use Rattle.std.specs.Prelude.{◌≡◌, List, [], Bool, true, false, ◌&&◌, cond, ℕ, length, take, eqb, leb}
 use Rattle.lane.specs.Names.{NoOrder, CheckAlive}
 use Rattle.lane.specs.Record.{ended, kept, received}
 use Rattle.lane.specs.declared.Event.{Event}

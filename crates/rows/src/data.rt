@@ -1,7 +1,7 @@
 // The attribute table for code: the names, a line each, and a number for each row and each kind.
 ghost use Rattle.std.specs.Prelude.{◌≡◌, ◌+◌, ◌≤◌, ◌<◌};
 ghost use Rattle.table.specs.Table.{rows_of, guid_cell_in};
-ghost use Rattle.rows.specs.Coding.{numbers as coding, names as letters, coded_at, ROWS as MANY, LINES as LINE_COUNT, NO_ID, RowsAt, name_at};
+ghost use Rattle.rows.specs.Coding.{numbers as coding, names as letters, coded_at, ROWS as MANY, LINES as LINE_COUNT, NO_ID as WITHOUT_ID, RowsAt, name_at};
 
 /// The first and the last kind.
 pub const FIRST: u8 = 1;
@@ -253,7 +253,7 @@ pub fn rows_of(kind: u8) -> Range
 
 /// Where the cell of a kind's BoardId stands, of three numbers for each row; behind all cells if it has none.
 pub fn id_cell(kind: u8) -> usize
-    ensures { result ≡ guid_cell_in NO_ID (rows_of kind) 0 }
+    ensures { result ≡ guid_cell_in WITHOUT_ID (rows_of kind) 0 }
 {
     if LAST < kind {
         return NO_ID;

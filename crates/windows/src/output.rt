@@ -2,7 +2,7 @@
 ghost use Rattle.std.specs.Prelude.{◌≡◌, ◌+◌, ◌-◌, ◌≤◌, length, if◌then◌else◌};
 ghost use Rattle.printing.specs.Put.{Wrote, Countable};
 ghost use Rattle.lines.specs.Text.{column};
-ghost use Rattle.windows.specs.Printed.{LINE, in64, left, line_printed, last_printed, Printed};
+ghost use Rattle.windows.specs.Printed.{LINE as LINE_SIZE, in64, left, line_printed, last_printed, Printed};
 
 use printing::{put, put_byte, put_digits};
 
@@ -35,7 +35,7 @@ pub fn line(
     kind: u8,
     refusal: u8,
 ) -> usize
-    requires { at + LINE ≤ length out.old }
+    requires { at + LINE_SIZE ≤ length out.old }
     ensures { Printed out.old at (line_printed base start end kind refusal) out.new result }
 {
     let first = counted(base, start);
@@ -48,7 +48,7 @@ pub fn line(
 
 /// The last line.
 pub fn end_line(out: &mut [u8], at: usize, base: u64, place: usize, answer: u8) -> usize
-    requires { at + LINE ≤ length out.old }
+    requires { at + LINE_SIZE ≤ length out.old }
     ensures { Printed out.old at (last_printed base place answer) out.new result }
 {
     let byte = counted(base, place);
@@ -85,8 +85,8 @@ fn emptied(rt: &impl Print, out: &[u8], at: usize) -> Room
 
 // How much may go on waiting in a buffer of that size.
 fn most(size: usize, dry: bool) -> usize
-    requires { LINE ≤ size }
-    ensures { result ≡ (if dry then 0 else size - LINE) }
+    requires { LINE_SIZE ≤ size }
+    ensures { result ≡ (if dry then 0 else size - LINE_SIZE) }
 {
     if dry {
         return 0;
@@ -97,7 +97,7 @@ fn most(size: usize, dry: bool) -> usize
 /// Hands out what waits, the first `at` bytes, if more of the input may be waited for, or if there is no room behind it for a further line.
 pub fn made_room(rt: &impl Print, out: &[u8], at: usize, dry: bool) -> Room
     requires at_in_bounds { at ≤ length out.now }
-    requires in_bounds { LINE ≤ length out.now }
+    requires in_bounds { LINE_SIZE ≤ length out.now }
     ensures { result.waiting ≡ left dry (length out.now) at }
 {
     if at <= most(out.len(), dry) {
