@@ -20,7 +20,8 @@ pub fn text(raw: &[u8], limit: usize) -> u8
     let Length::Is(n) = l else {
         return 5;
     };
-    if n <= limit {
+    let size = n;
+    if size <= limit {
         return 0;
     }
     5

@@ -9,8 +9,8 @@ returns-then-raw-limit c = text_short c.args.limit c.if-raw-limit.true
 pub returns-in_default : goal.returns-in_default
 returns-in_default c = text_unread c.args.limit c.in_default.is c.text_len-l.ensures
 
-pub returns-then-n-limit : goal.returns-then-n-limit
-returns-then-n-limit c = text_fits c.args.limit c.in-Is.is c.text_len-l.ensures c.if-n-limit.true
+pub returns-then-size-limit : goal.returns-then-size-limit
+returns-then-size-limit c = text_fits c.args.limit c.in-Is.is c.text_len-l.ensures c.if-size-limit.true
 
 pub returns : goal.returns
-returns c = text_long c.args.limit c.in-Is.is c.text_len-l.ensures c.if-n-limit.false
+returns c = text_long c.args.limit c.in-Is.is c.text_len-l.ensures c.if-size-limit.false
