@@ -5,7 +5,6 @@ ghost use Rattle.table.specs.Says.{refusal_in, refused};
 ghost use Rattle.reads.specs.Kept.{int_of, size_of, Judges, RowJudges};
 
 use crate::tried::{Tried, number, span};
-use decodes::Length;
 use number::WholeRead;
 use rows::data::Row;
 
@@ -16,8 +15,7 @@ pub fn text(raw: &[u8], limit: usize) -> u8
     if raw.len() <= limit {
         return 0;
     }
-    let l = decodes::text_len(raw);
-    let Length::Is(n) = l else {
+    let Some(n) = decodes::text_len(raw) else {
         return 5;
     };
     let size = n;
