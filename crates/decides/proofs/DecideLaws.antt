@@ -7,6 +7,10 @@ use native.Mathlib.Omega.{arith}
 use lib.ListN.{length, take, drop}
 use lib.Dec.{eqb}
 use borrow.Author.Tests.{eq-eqb, ne_eqb}
+use Rattle.std.specs.Prelude.{Option}
+use Rattle.refusals.specs.Numbers.{number_of}
+use Rattle.refusals.specs.declared.Refusal.{Refusal}
+use Rattle.refusals.specs.declared.Refusal.TheVariants.{Incomplete, Malformed, MessageTooLong, Missing, TextTooLong, BadValue, NoRoom, MayNotBeSent, ProtocolError}
 use Rattle.grammar.specs.Bytes.{Bytes}
 use Rattle.grammar.specs.Tree.{tree, Forest}
 use Rattle.grammar.specs.Element.{read_element}
@@ -24,9 +28,8 @@ use Rattle.rows.specs.Coding.{attribute_form, name_at, row_of, coded_at, rows_fr
 use Rattle.rows.specs.declared.data.Row.{Row as Coded}
 use Rattle.rows.proofs.CodingLaws.{next_row, no_row}
 use Rattle.reads.specs.Held.{Held, Found, pairs, place}
-use Rattle.reads.specs.Kept.{Rowed, Sorted, Sorts}
+use Rattle.reads.specs.Kept.{Verdict, Rowed, Sorted, Sorts}
 use Rattle.reads.specs.declared.features.Sort.{Sort}
-use Rattle.reads.specs.declared.tried.Tried.{Tried}
 use Rattle.reads.proofs.OutlineLaws.{child, accepted, answers, accepted_held, accepted_holds}
 use Rattle.reads.proofs.TableLaws.{Fed}
 use Rattle.reads.proofs.WholeLaws.{as_read_lem}
@@ -57,7 +60,7 @@ pub attribute_stands : {s : Bytes} {base : ℕ} {table : List ℕ} {count : ℕ}
 attribute_stands {s} {base} {table} {count} c {n} {r} other q found = record { says = λ h. (subst (λ (n : Bytes). Found s base table count n r) q found).says h ∙ sym (ap (λ (b : Bool). value_in (cond b features (attribute_form c.form c.low c.high)) (place h (name_at c.line c.len))) (ne_eqb c.form 0 other) ∙ attribute_value c.form c.low c.high (place h (name_at c.line c.len))) }
 
 -- no row before the i-th is refused: the rows from it on rule as all do
-pub record Tried-so-far (s : Bytes) (base : ℕ) (table : List ℕ) (count : ℕ) (found : Tried) (from n i : ℕ) : Type 0 where
+pub record Tried-so-far (s : Bytes) (base : ℕ) (table : List ℕ) (count : ℕ) (found : Option ℕ) (from n i : ℕ) : Type 0 where
   pub upto : i ≤ n
   pub rules : (h : Held s base table count) (m : Bytes) (f : Forest) → Fed found from n f → first_refused i (rows_from (from + i) (n - i)) (place h) (tree m (pairs h) f) ≡ first_refused 0 (rows_from from n) (place h) (tree m (pairs h) f)
 
@@ -69,11 +72,23 @@ ruled_some : (n i : ℕ) (w : Words) (x : Ruling) → (n ≡ 0 → ⊥) → rule
 ruled_some zero i w x e = absurd (e refl)
 ruled_some (suc n) i w x e = refl
 
-module _ (s : Bytes) (base : ℕ) (table : List ℕ) (count : ℕ) (found : Tried) (from n : ℕ) where
+-- no refusal has the number 0
+pub is_refused_lem : (e : Refusal) → number_of e ≡ 0 → ⊥
+is_refused_lem Incomplete h = omega arith
+is_refused_lem Malformed h = omega arith
+is_refused_lem MessageTooLong h = omega arith
+is_refused_lem Missing h = omega arith
+is_refused_lem TextTooLong h = omega arith
+is_refused_lem BadValue h = omega arith
+is_refused_lem NoRoom h = omega arith
+is_refused_lem MayNotBeSent h = omega arith
+is_refused_lem ProtocolError h = omega arith
+
+module _ (s : Bytes) (base : ℕ) (table : List ℕ) (count : ℕ) (found : Option ℕ) (from n : ℕ) where
   pub rule_starts : Tried-so-far s base table count found from n 0
   rule_starts = record { upto = omega arith; rules = λ h m f z. (let a : from + 0 ≡ from = omega arith in let b : n - 0 ≡ n = omega arith in ap (λ (j : ℕ). first_refused 0 (rows_from j (n - 0)) (place h) (tree m (pairs h) f)) a ∙ ap (λ (j : ℕ). first_refused 0 (rows_from from j) (place h) (tree m (pairs h) f)) b) }
 
-  module _ {i : ℕ} {t : Tried} (g : Tried-so-far s base table count found from n i) (h : i < n) (row : Rowed s base table count found (coded_at (from + i)) t) where
+  module _ {i : ℕ} {t : Verdict} (g : Tried-so-far s base table count found from n i) (h : i < n) (row : Rowed s base table count found (coded_at (from + i)) t) where
     line : Row
     line = row_of (coded_at (from + i))
 
@@ -81,7 +96,7 @@ module _ (s : Bytes) (base : ℕ) (table : List ℕ) (count : ℕ) (found : Trie
     at_row : (k : Held s base table count) (m : Bytes) (f : Forest) → Fed found from n f → ruled_by t.refusal i (value_in line.form (place k line.name)) (first_refused (suc i) (rows_from (from + (i + 1)) (n - (i + 1))) (place k) (tree m (pairs k) f)) ≡ first_refused 0 (rows_from from n) (place k) (tree m (pairs k) f)
     unfolding first_refused line
     at_row k m f z =
-        ap (λ (x : ℕ). ruled_by x i (value_in line.form (place k line.name)) (first_refused (suc i) (rows_from (from + (i + 1)) (n - (i + 1))) (place k) (tree m (pairs k) f))) (ap (λ (t : Tried). t.refusal) (row.says k m f (z i h)))
+        ap (λ (x : ℕ). ruled_by x i (value_in line.form (place k line.name)) (first_refused (suc i) (rows_from (from + (i + 1)) (n - (i + 1))) (place k) (tree m (pairs k) f))) (ap (λ (t : Verdict). t.refusal) (row.says k m f (z i h)))
         ∙ ap (λ (l : List Row). first_refused i l (place k) (tree m (pairs k) f)) (sym (next_row from n i h))
         ∙ g.rules k m f z
 

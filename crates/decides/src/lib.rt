@@ -2,6 +2,7 @@
 #![tactic(auto)]
 
 ghost use Rattle.std.specs.Prelude.{◌≡◌};
+ghost use Rattle.refusals.specs.Numbers.{number_of};
 ghost use Rattle.rows.specs.Coding.{numbers as coding, names as letters, Sound};
 ghost use Rattle.reads.specs.Held.{Held};
 ghost use Rattle.decides.specs.Deciding.{unruled, undecided, decided_by, Decides};
@@ -11,6 +12,7 @@ use reader::answer::Answer;
 use reads::features::{Sort, sort_of};
 use reads::find::find;
 use reads::trying::try_row;
+use refusals::Refusal;
 use rows::data::{NAMES, NUMBERS, Row, name_at, row_at, rows_of};
 use tags::attributes::PLACES;
 use value::Words;
@@ -45,11 +47,11 @@ fn none() -> Ruling
 }
 
 // No message was read.
-fn unread(refusal: u8) -> Decision
-    ensures { result ≡ undecided refusal }
+fn unread(refusal: Refusal) -> Decision
+    ensures { result ≡ undecided (number_of refusal) }
 {
     Decision {
-        refusal: refusal,
+        refusal: refusal.number(),
         kind: 0,
         row: 0,
         value: Words::Absent,
@@ -101,12 +103,11 @@ fn rule(
     let mut i = 0;
     while i < n {
         let row = row_at(numbers, from + i);
-        let t = try_row(s, base, table, count, i, features, names, row);
-        let refusal = t.refusal;
-        if refusal != 0 {
+        let tried = try_row(s, base, table, count, i, features, names, row);
+        if let Err(refusal) = tried.answer {
             let value = value_of(s, base, table, count, names, row);
             return Ruling {
-                refusal: refusal,
+                refusal: refusal.number(),
                 row: i,
                 value: value,
             };
@@ -133,8 +134,8 @@ pub fn decided(s: &[u8]) -> Decision
             let x = rule(s, to, &table, o.count, k, &numbers, &names);
             made(kind, x)
         }
-        Answer::More { start } => unread(1),
-        Answer::Malformed { start, place } => unread(2),
-        Answer::TooLong { start } => unread(3),
+        Answer::More { start } => unread(Refusal::Incomplete),
+        Answer::Malformed { start, place } => unread(Refusal::Malformed),
+        Answer::TooLong { start } => unread(Refusal::MessageTooLong),
     }
 }

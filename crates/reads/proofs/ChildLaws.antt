@@ -5,9 +5,9 @@ use mathlib.Core.Bool.{Bool, true, false, ◌||◌, cond}
 use Prim.Native.Nat.{ℕ, ◌+◌, ◌-◌, ◌*◌, ◌≤◌, ◌<◌}
 use native.Mathlib.Omega.{arith}
 use lib.ListN.{length, length-append, length-drop, take, drop}
-use lib.Dec.{eqb}
 use lib.Seq.{length-take-le}
 use borrow.Author.Tests.{leb-true}
+use Rattle.std.specs.Prelude.{Option, None, Some}
 use Rattle.exact.specs.Chain.{clash}
 use Rattle.grammar.specs.Bytes.{Bytes, text, same}
 use Rattle.grammar.specs.Limits.{DEPTH}
@@ -27,9 +27,8 @@ use Rattle.table.specs.Table.{table, kind_of}
 use Rattle.rows.specs.Coding.{LINES, WIDTH, names, name_at}
 use Rattle.rows.proofs.CodingLaws.{length_names}
 use Rattle.reads.specs.Children.{Holds, holds_none, holds, unnamed_child, First, no_child_case, first_child, FirstIn}
-use Rattle.reads.specs.Kept.{as_cell, lacking, features_of, NotesIn, SUPPORTED, Carried, Supports, Sorts}
+use Rattle.reads.specs.Kept.{Verdict, as_cell, lacking, features_of, NotesIn, SUPPORTED, carried_by, Carried, Supports, Sorts}
 use Rattle.reads.specs.declared.features.Named.{Named}
-use Rattle.reads.specs.declared.tried.Tried.{Tried}
 
 -- a found child stands inside the bytes, and the search goes on behind it
 pub record Ahead (s : Bytes) (at : ℕ) (r : Child) : Type 0 where
@@ -217,16 +216,16 @@ length_line n h e =
 finds : {s : Bytes} {inside : ℕ} {n n' m : Bytes} {r : Named} {f : Forest} → FirstIn s inside n r → n ≡ n' → n' ≡ m → Holds s inside f → r.found ≡ has_child m f
 finds {s} {inside} {r = r} {f = f} p e q h = found_is ((subst (λ (n : Bytes). FirstIn s inside n r) (e ∙ q) p).says f h)
 
-pub all_noted : {s : Bytes} {inside : ℕ} {x y z : Named} {l m n : Bytes} {a b d : ℕ} {r : Tried} → l ≡ on_line 0 20 → FirstIn s inside l x → m ≡ on_line 1 21 → FirstIn s inside m y → n ≡ on_line 2 20 → FirstIn s inside n z → a ≡ cond x.found 1 0 → b ≡ cond y.found 2 0 → d ≡ cond z.found 4 0 → r ≡ as_cell 0 (1 ∷ (a + (b + d)) ∷ 0 ∷ []) → NotesIn s inside r
+pub all_noted : {s : Bytes} {inside : ℕ} {x y z : Named} {l m n : Bytes} {a b d r : ℕ} → l ≡ on_line 0 20 → FirstIn s inside l x → m ≡ on_line 1 21 → FirstIn s inside m y → n ≡ on_line 2 20 → FirstIn s inside n z → a ≡ cond x.found 1 0 → b ≡ cond y.found 2 0 → d ≡ cond z.found 4 0 → r ≡ a + (b + d) → NotesIn s inside r
 all_noted {s} {inside} {x} {y} {z} {r = r} i p j q k t e f g u = record { says = go }
   where
-    cell : Bool → Bool → Bool → Tried
-    cell i j k = as_cell 0 (1 ∷ (cond i 1 0 + (cond j 2 0 + cond k 4 0)) ∷ 0 ∷ [])
+    cell : ℕ → Verdict
+    cell n = as_cell 0 (1 ∷ n ∷ 0 ∷ [])
 
-    is : r ≡ cell x.found y.found z.found
-    is = u ∙ rw (e, f, g)
+    is : cell r ≡ cell (cond x.found 1 0 + (cond y.found 2 0 + cond z.found 4 0))
+    is = ap cell u ∙ rw (e, f, g)
 
-    go : (o : Forest) → Holds s inside o → r ≡ features_of (present (notes o))
+    go : (o : Forest) → Holds s inside o → cell r ≡ features_of (present (notes o))
     go o h =
         let m = has_child (text "FeatureBoardForecast") o in
         let n = has_child (text "FeatureQueryBoardInfo") o in
@@ -244,22 +243,22 @@ module _ {s : Bytes} {inside : ℕ} {name : Bytes} {c : Named} (e : name ≡ on_
   search_says : (f : Forest) → Holds s inside f → First s SUPPORTED f c
   search_says f h = subst (λ (n : Bytes). First s n f c) (e ∙ on_lines_lem.3) (first.says f h)
 
-  pub supports_some : {r : Tried} → c.found ≡ true → NotesIn s c.inside r → Supports s inside r
-  supports_some {r} q n = record { says = λ f h. go f (search_says f h) }
+  pub supports_some : {n : ℕ} {r : Option ℕ} → c.found ≡ true → NotesIn s c.inside n → r ≡ Some n → Supports s inside r
+  supports_some {n} {r} q m k = record { says = λ f h. go f (search_says f h) }
     where
       go : (f : Forest) → First s SUPPORTED f c → Carried SUPPORTED r f
       go f (no_child_case d a b) = clash (sym q ∙ ap (λ (y : Named). y.found) d)
-      go f (first_child d a t b h) = λ o. ap (λ (r : Tried). cond (eqb r.there 0) (lacking o) r) (n.says (children_of t) h) ∙ ap features_of (sym (b o))
+      go f (first_child d a t b h) = λ o. ap (λ (r : Option ℕ). carried_by r o) k ∙ m.says (children_of t) h ∙ ap features_of (sym (b o))
 
-  pub supports_none : {r : Tried} → c.found ≡ false → r ≡ as_cell 0 (0 ∷ 0 ∷ 0 ∷ []) → Supports s inside r
+  pub supports_none : {r : Option ℕ} → c.found ≡ false → r ≡ None → Supports s inside r
   supports_none {r} q k = record { says = λ f h. go f (search_says f h) }
     where
       go : (f : Forest) → First s SUPPORTED f c → Carried SUPPORTED r f
-      go f (no_child_case d a b) = λ o. ap (λ (r : Tried). cond (eqb r.there 0) (lacking o) r) k ∙ lacks o ∙ ap features_of (sym (b o))
+      go f (no_child_case d a b) = λ o. ap (λ (r : Option ℕ). carried_by r o) k ∙ lacks o ∙ ap features_of (sym (b o))
       go f (first_child d a t b h) = clash (sym d ∙ q)
 
 -- the kind of an element, and its features
-module _ {s : Bytes} {from to inside k : ℕ} {t : Tried} (e : k ≡ kind_of (take (to - from) (drop from s))) where
+module _ {s : Bytes} {from to inside k : ℕ} {t : Option ℕ} (e : k ≡ kind_of (take (to - from) (drop from s))) where
   pub sorts_some : Supports s inside t → Sorts s from to inside (record { kind = k; features = t })
   sorts_some h = record { kind = e; features = λ f z _. h.says f z }
 

@@ -23,8 +23,7 @@ use Rattle.std.specs.Prelude.{Option, Some, None}
 use Rattle.value.proofs.Theorems.{loose_one}
 use Rattle.table.specs.Table.{words, some_words, whole, guid, version, positive}
 use Rattle.table.specs.Says.{Value, Result, present, refused, an_int, a_text, an_id, TOO_LONG, limited, when, ranged, measured, judged, refusal_in}
-use Rattle.reads.specs.Kept.{as_cell, int_of, size_of, Judges}
-use Rattle.reads.specs.declared.tried.Tried.{Tried}
+use Rattle.reads.specs.Kept.{Verdict, as_cell, int_of, size_of, Judges}
 
 -- what is said of a value's reading, of the reading that it has
 pub as_read_lem : {A : Type 0} {says : Bytes → A → Type 0} {none : A} {w : Bytes} {r : A} {l : List Item} → Loose w l → Reads says none w r → says (read_value l) r
@@ -58,7 +57,7 @@ ranged_out : (lo hi : ℕ) (m : Bool) (k : ℕ) → not m && within lo hi k ≡ 
 ranged_out lo hi m k e = ap (λ (b : Bool). int_of (when b (an_int k))) e
 
 module _ {raw : Bytes} (r : WholeRead) (lo hi : ℕ) (reads : IntReads raw r) where
-  pub int_unread : {q : Tried} → r ≡ NoneRead → q ≡ int_of (refused 6) → Judges int_of (whole lo hi) raw q
+  pub int_unread : {q : Verdict} → r ≡ NotRead → q ≡ int_of (refused 6) → Judges int_of (whole lo hi) raw q
   unfolding judged paper
   int_unread e h = record { says = λ l x. h ∙ sym (ap (λ (z : Sized). int_of (ranged lo hi z)) (not_int _ (sym (ap paper e) ∙ as_read_lem x reads))) }
 
@@ -67,11 +66,11 @@ module _ {raw : Bytes} (r : WholeRead) (lo hi : ℕ) (reads : IntReads raw r) wh
     unfolding paper
     sized x = is_int _ m n (sym (ap paper e) ∙ as_read_lem x reads)
 
-    refuses : {q : Tried} → ((k : ℕ) → n ≡ min 65536 k → not m && within lo hi k ≡ false) → q ≡ int_of (refused 6) → Judges int_of (whole lo hi) raw q
+    refuses : {q : Verdict} → ((k : ℕ) → n ≡ min 65536 k → not m && within lo hi k ≡ false) → q ≡ int_of (refused 6) → Judges int_of (whole lo hi) raw q
     unfolding judged
     refuses f h = record { says = λ l x. let (k, a, b) = sized x in h ∙ sym (ap (λ (z : Sized). int_of (ranged lo hi z)) a ∙ ranged_out lo hi m k (f k b)) }
 
-    pub int_minus : {q : Tried} → m ≡ true → q ≡ int_of (refused 6) → Judges int_of (whole lo hi) raw q
+    pub int_minus : {q : Verdict} → m ≡ true → q ≡ int_of (refused 6) → Judges int_of (whole lo hi) raw q
     int_minus t h = refuses (λ k b. rw t) h
 
     out : (k : ℕ) → within lo hi k ≡ false → not m && within lo hi k ≡ false
@@ -81,13 +80,13 @@ module _ {raw : Bytes} (r : WholeRead) (lo hi : ℕ) (reads : IntReads raw r) wh
         go true = w
         go false = refl
 
-    pub int_low : {q : Tried} → hi ≤ 65535 → n < lo → q ≡ int_of (refused 6) → Judges int_of (whole lo hi) raw q
+    pub int_low : {q : Verdict} → hi ≤ 65535 → n < lo → q ≡ int_of (refused 6) → Judges int_of (whole lo hi) raw q
     int_low t u h = refuses (λ k b. out k (outside lo hi k (λ v. lt-leb k hi (let w = leb-true lo k v in omega arith)))) h
 
-    pub int_high : {q : Tried} → hi < n → q ≡ int_of (refused 6) → Judges int_of (whole lo hi) raw q
+    pub int_high : {q : Verdict} → hi < n → q ≡ int_of (refused 6) → Judges int_of (whole lo hi) raw q
     int_high u h = refuses (λ k b. out k (outside lo hi k (λ v. lt-leb k hi (omega arith)))) h
 
-    pub int_good : {q : Tried} → hi ≤ 65535 → m ≡ false → lo ≤ n → n ≤ hi → q ≡ as_cell 0 (1 ∷ n ∷ 0 ∷ []) → Judges int_of (whole lo hi) raw q
+    pub int_good : {q : Verdict} → hi ≤ 65535 → m ≡ false → lo ≤ n → n ≤ hi → q ≡ as_cell 0 (1 ∷ n ∷ 0 ∷ []) → Judges int_of (whole lo hi) raw q
     unfolding judged
     int_good t u v w h = record { says = λ l x. let (k, a, b) = sized x in let d : n ≡ k = omega arith in h ∙ made l k a d }
       where
@@ -98,7 +97,7 @@ module _ {raw : Bytes} (r : WholeRead) (lo hi : ℕ) (reads : IntReads raw r) wh
         made l k a d = ap (λ (n : ℕ). as_cell 0 (1 ∷ n ∷ 0 ∷ [])) d ∙ sym (ap (λ (z : Sized). int_of (ranged lo hi z)) a ∙ ap (λ (b : Bool). int_of (when b (an_int k))) (fits k d))
 
 -- a positive number
-module _ {raw : Bytes} {r : NumberRead} {q : Tried} (reads : NumberReads raw r) where
+module _ {raw : Bytes} {r : NumberRead} {q : Verdict} (reads : NumberReads raw r) where
   pub size_good : r.ok ≡ true → q ≡ as_cell 0 (1 ∷ r.millionths ∷ r.decimals ∷ []) → Judges size_of positive raw q
   unfolding judged number_read
   size_good t h = record { says = λ l x. h ∙ go (number_of (read_value l)) (decimals_of (read_value l)) (as_read_lem x reads) }

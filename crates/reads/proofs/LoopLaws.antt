@@ -5,6 +5,12 @@ use Prim.Native.Nat.{ℕ, zero, suc, ◌+◌, ◌-◌, ◌*◌, ◌≤◌, ◌<�
 use native.Mathlib.Omega.{arith}
 use lib.ListN.{length, take, drop, set, get_or, length-append, length-drop}
 use lib.Seq.{length-take-le, sets-eq, take_at, drop-append-add, drop-drop}
+use Rattle.std.specs.Prelude.{Option, Ok, Err}
+use Rattle.std.specs.Prelude.{Result as Answer}
+use Rattle.std.specs.Result.{result_and}
+use Rattle.refusals.specs.Numbers.{told}
+use Rattle.refusals.specs.declared.Refusal.{Refusal}
+use Rattle.refusals.specs.declared.Refusal.TheVariants.{Incomplete, Malformed, MessageTooLong, Missing, TextTooLong, BadValue, NoRoom, MayNotBeSent, ProtocolError}
 use Rattle.grammar.specs.Bytes.{Bytes}
 use Rattle.grammar.specs.Tree.{Tree, tree, Forest}
 use Rattle.value.specs.declared.text.Words.{Words}
@@ -18,9 +24,8 @@ use Rattle.message.specs.Cells.{cell_of, cells_of}
 use Rattle.message.specs.declared.values.Whole.TheVariants.{Absent as NoWhole, Present as IsWhole}
 use Rattle.message.specs.declared.values.Measure.TheVariants.{Absent as NoMeasure, Present as IsMeasure}
 use Rattle.reads.specs.Held.{Held, pairs, place}
-use Rattle.reads.specs.Kept.{kept_of, tried_by, kept_in, Sorted, Rowed, AllRowed}
+use Rattle.reads.specs.Kept.{Verdict, kept_of, tried_by, kept_in, Sorted, Rowed, AllRowed}
 use Rattle.reads.specs.declared.features.Sort.{Sort}
-use Rattle.reads.specs.declared.tried.Tried.{Tried}
 use Rattle.reads.proofs.TableLaws.{Fed}
 
 -- a cell is three numbers
@@ -46,6 +51,19 @@ first_assoc (suc a) b c = refl
 first_zero : (a : ℕ) → first a 0 ≡ a
 first_zero zero = refl
 first_zero (suc a) = refl
+
+-- the first refusal, by the answers and by their numbers
+pub told_and : {A : Type 0} (a b : Answer A Refusal) → told (result_and a b) ≡ first (told a) (told b)
+told_and (Ok x) b = refl
+told_and (Err Incomplete) b = refl
+told_and (Err Malformed) b = refl
+told_and (Err MessageTooLong) b = refl
+told_and (Err Missing) b = refl
+told_and (Err TextTooLong) b = refl
+told_and (Err BadValue) b = refl
+told_and (Err NoRoom) b = refl
+told_and (Err MayNotBeSent) b = refl
+told_and (Err ProtocolError) b = refl
 
 -- the numbers of i rows stand in front of what was there; with the rest they are all
 pub record Filled (before cells : List ℕ) (i : ℕ) (rest all : List ℕ) : Type 0 where
@@ -75,19 +93,19 @@ put_three l at x y z h = let a : at + 1 ≡ suc at = omega arith in let b : at +
 kept : (l : List ℕ) (at x y z : ℕ) → at + 3 ≤ length l → length (take at l ++ (x ∷ y ∷ z ∷ drop (at + 3) l)) ≡ length l
 kept l at x y z h = let a = length-append (take at l) (x ∷ y ∷ z ∷ drop (at + 3) l) in let b = length-take-le at l (omega arith) in let d = length-drop (at + 3) l in omega arith
 
-pub record Going (s : Bytes) (base : ℕ) (table : List ℕ) (count : ℕ) (features : Tried) (from n : ℕ) (before cells : List ℕ) (refusal i : ℕ) : Type 0 where
+pub record Going (s : Bytes) (base : ℕ) (table : List ℕ) (count : ℕ) (features : Option ℕ) (from n : ℕ) (before cells : List ℕ) (refusal i : ℕ) : Type 0 where
   pub upto : i ≤ n
   pub long : length cells ≡ length before
   pub refuses : (h : Held s base table count) (m : Bytes) (f : Forest) → Fed features from n f → first refusal (refusal_of (rows_from (from + i) (n - i)) (tree m (pairs h) f)) ≡ refusal_of (rows_from from n) (tree m (pairs h) f)
   pub fills : (h : Held s base table count) (m : Bytes) (f : Forest) → Fed features from n f → Filled before cells i (cells_of (kept_in (rows_from (from + i) (n - i)) (place h) (tree m (pairs h) f))) (cells_of (kept_in (rows_from from n) (place h) (tree m (pairs h) f)))
 
-module _ (s : Bytes) (base : ℕ) (table : List ℕ) (count : ℕ) (features : Tried) (from n : ℕ) (before : List ℕ) where
+module _ (s : Bytes) (base : ℕ) (table : List ℕ) (count : ℕ) (features : Option ℕ) (from n : ℕ) (before : List ℕ) where
   pub loop_starts : Going s base table count features from n before before 0 0
   loop_starts =
       let e : rows_from (from + 0) (n - 0) ≡ rows_from from n = (let a : from + 0 ≡ from = omega arith in let b : n - 0 ≡ n = omega arith in ap (λ (j : ℕ). rows_from j (n - 0)) a ∙ ap (rows_from from) b) in
       record { upto = omega arith; long = refl; refuses = λ h m f z. ap (λ (l : List Row). refusal_of l (tree m (pairs h) f)) e; fills = λ h m f z. record { front = []; are = refl; long = refl; joined = ap (λ (l : List Row). cells_of (kept_in l (place h) (tree m (pairs h) f))) e } }
 
-  pub loop_goes_on : {cells cells' : List ℕ} {refusal refusal' i : ℕ} {t : Tried} → Going s base table count features from n before cells refusal i → i < n → Rowed s base table count features (coded_at (from + i)) t
+  pub loop_goes_on : {cells cells' : List ℕ} {refusal refusal' i : ℕ} {t : Verdict} → Going s base table count features from n before cells refusal i → i < n → Rowed s base table count features (coded_at (from + i)) t
       → cells' ≡ take (3 * i) cells ++ (t.there ∷ t.a ∷ t.b ∷ drop (3 * i + 3) cells) → 3 * i + 3 ≤ length cells → refusal' ≡ first refusal t.refusal → Going s base table count features from n before cells' refusal' (i + 1)
   unfolding refusal_of
   loop_goes_on {cells} {cells'} {refusal} {refusal'} {i} {t} g h row e fits r = record { upto = omega arith; long = ap length e ∙ kept cells (3 * i) t.there t.a t.b fits ∙ g.long; refuses = refuses; fills = fills }
@@ -100,7 +118,7 @@ module _ (s : Bytes) (base : ℕ) (table : List ℕ) (count : ℕ) (features : T
 
       refuses : (h : Held s base table count) (m : Bytes) (f : Forest) → Fed features from n f → first refusal' (refusal_of rest (tree m (pairs h) f)) ≡ refusal_of (rows_from from n) (tree m (pairs h) f)
       refuses o m f z =
-          let q : t.refusal ≡ refusal_in (tried line (tree m (pairs o) f)) = ap (λ (t : Tried). t.refusal) (row.says o m f (z i h)) in
+          let q : t.refusal ≡ refusal_in (tried line (tree m (pairs o) f)) = ap (λ (t : Verdict). t.refusal) (row.says o m f (z i h)) in
           ap (λ (x : ℕ). first x (refusal_of rest (tree m (pairs o) f))) (r ∙ ap (first refusal) q)
           ∙ first_assoc refusal (refusal_in (tried line (tree m (pairs o) f))) (refusal_of rest (tree m (pairs o) f))
           ∙ ap (λ (l : List Row). first refusal (refusal_of l (tree m (pairs o) f))) (sym (next_row from n i h))
@@ -110,7 +128,7 @@ module _ (s : Bytes) (base : ℕ) (table : List ℕ) (count : ℕ) (features : T
       fills o m f z =
           fill before cells i t.there t.a t.b (cells_of (kept_in rest (place o) (tree m (pairs o) f))) (cells_of (kept_in (rows_from from n) (place o) (tree m (pairs o) f))) cells'
           (subst (λ (l : List ℕ). Filled before cells i l (cells_of (kept_in (rows_from from n) (place o) (tree m (pairs o) f))))
-          (ap (λ (l : List Row). cells_of (kept_in l (place o) (tree m (pairs o) f))) (next_row from n i h) ∙ next_cell line rest (place o) (tree m (pairs o) f) ∙ ap (λ (t : Tried). t.there ∷ t.a ∷ t.b ∷ cells_of (kept_in rest (place o) (tree m (pairs o) f))) (sym (row.says o m f (z i h))))
+          (ap (λ (l : List Row). cells_of (kept_in l (place o) (tree m (pairs o) f))) (next_row from n i h) ∙ next_cell line rest (place o) (tree m (pairs o) f) ∙ ap (λ (t : Verdict). t.there ∷ t.a ∷ t.b ∷ cells_of (kept_in rest (place o) (tree m (pairs o) f))) (sym (row.says o m f (z i h))))
           (g.fills o m f z)) e
 
   pub loop_ends : {cells : List ℕ} {refusal i : ℕ} (k : Sort) → rows_of k.kind ≡ rows_from from n → ((f : Forest) → Sorted k f → Fed features from n f) → Going s base table count features from n before cells refusal i → n ≤ i → AllRowed s base table count k before cells refusal

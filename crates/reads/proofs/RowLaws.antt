@@ -8,6 +8,7 @@ use lib.ListN.{length, take, drop, length-drop}
 use lib.Dec.{eqb}
 use lib.Seq.{length-take-le}
 use borrow.Author.Tests.{eq-eqb, ne_eqb}
+use Rattle.std.specs.Prelude.{Option}
 use Rattle.exact.specs.Chain.{clash}
 use Rattle.grammar.specs.Bytes.{Bytes}
 use Rattle.grammar.specs.Value.{Item, read_value}
@@ -25,8 +26,8 @@ use Rattle.message.specs.Fields.{Field, a_words}
 use Rattle.message.specs.Cells.{words_cell, cell_of}
 use Rattle.message.specs.Handed.{attributes_of}
 use Rattle.reads.specs.Held.{Held, pairs, place, Found, Tries}
-use Rattle.reads.specs.Kept.{as_cell, lacking, int_of, size_of, features_of, kept_of, tried_as, Judges, RowJudges, Rowed, carried_by}
-use Rattle.reads.specs.declared.tried.Tried.{Tried}
+use Rattle.reads.specs.Kept.{Verdict, as_cell, cell_as, lacking, int_of, size_of, features_of, kept_of, tried_as, Judges, RowJudges, Rowed, carried_by}
+use Rattle.reads.specs.declared.tried.Cell.{Cell}
 use Rattle.reads.proofs.FieldLaws.{there, tries_absent, tries_present}
 
 -- the arms of `judged`
@@ -34,42 +35,44 @@ abbrev at : ℕ → Bytes → Words
 at start raw = Present (record { start = start; len = length raw })
 
 -- a form whose value is told by its place
-by_place : {raw : Bytes} {start : ℕ} {r : Tried} (t : Form) {n : ℕ} → ((x : Result) → kept_of t (at start raw) x ≡ a_words (at start raw)) → Judges refusal_in t raw n → r ≡ as_cell n (words_cell (at start raw)) → (l : List Item) → Loose raw l → r ≡ tried_as t (at start raw) (judged t (read_value l))
-by_place {raw} {start} t k j q l x = q ∙ ap (λ (n : ℕ). as_cell n (words_cell (at start raw))) (j.says l x) ∙ ap (λ (f : Field). as_cell (refusal_in (judged t (read_value l))) (cell_of f)) (sym (k (judged t (read_value l))))
+by_place : {raw : Bytes} {start n : ℕ} {p : Cell} (t : Form) → ((x : Result) → kept_of t (at start raw) x ≡ a_words (at start raw)) → Judges refusal_in t raw n → p ≡ cell_as (words_cell (at start raw)) → (l : List Item) → Loose raw l → record { refusal = n; there = p.there; a = p.a; b = p.b } ≡ tried_as t (at start raw) (judged t (read_value l))
+by_place {raw} {start} {n} t k j q l x = ap (λ (p : Cell). record { refusal = n; there = p.there; a = p.a; b = p.b }) q ∙ ap (λ (n : ℕ). as_cell n (words_cell (at start raw))) (j.says l x) ∙ ap (λ (f : Field). as_cell (refusal_in (judged t (read_value l))) (cell_of f)) (sym (k (judged t (read_value l))))
 
-module _ {raw : Bytes} {start lo hi k : ℕ} {r : Tried} where
-  so : (j : ℕ) → k ≡ j → ((l : List Item) → Loose raw l → r ≡ tried_as (attribute_form j lo hi) (at start raw) (judged (attribute_form j lo hi) (read_value l))) → RowJudges k lo hi raw start r
-  so j e f = subst (λ (k : ℕ). RowJudges k lo hi raw start r) (sym e) (record { says = f })
+module _ {raw : Bytes} {start lo hi k : ℕ} where
+  so : {r : Verdict} (j : ℕ) → k ≡ j → ((l : List Item) → Loose raw l → r ≡ tried_as (attribute_form j lo hi) (at start raw) (judged (attribute_form j lo hi) (read_value l))) → RowJudges k lo hi raw start r
+  so {r} j e f = subst (λ (k : ℕ). RowJudges k lo hi raw start r) (sym e) (record { says = f })
 
-  pub text_arm : {n : ℕ} → k ≡ 1 → Judges refusal_in (words hi) raw n → r ≡ as_cell n (words_cell (at start raw)) → RowJudges k lo hi raw start r
+  -- those that are told by their place
+  pub text_arm : {p : Cell} {n : ℕ} → k ≡ 1 → p ≡ cell_as (words_cell (at start raw)) → Judges refusal_in (words hi) raw n → RowJudges k lo hi raw start (record { refusal = n; there = p.there; a = p.a; b = p.b })
   unfolding kept_of
-  text_arm e j q = so 1 e (by_place (words hi) (λ x. refl) j q)
+  text_arm e q j = so 1 e (by_place (words hi) (λ x. refl) j q)
 
-  pub some_arm : {n : ℕ} → k ≡ 2 → Judges refusal_in (some_words hi) raw n → r ≡ as_cell n (words_cell (at start raw)) → RowJudges k lo hi raw start r
+  pub some_arm : {p : Cell} {n : ℕ} → k ≡ 2 → p ≡ cell_as (words_cell (at start raw)) → Judges refusal_in (some_words hi) raw n → RowJudges k lo hi raw start (record { refusal = n; there = p.there; a = p.a; b = p.b })
   unfolding kept_of
-  some_arm e j q = so 2 e (by_place (some_words hi) (λ x. refl) j q)
+  some_arm e q j = so 2 e (by_place (some_words hi) (λ x. refl) j q)
 
-  pub int_arm : k ≡ 3 → Judges int_of (whole lo hi) raw r → RowJudges k lo hi raw start r
+  pub id_arm : {p : Cell} {n : ℕ} → k ≡ 4 → p ≡ cell_as (words_cell (at start raw)) → Judges refusal_in guid raw n → RowJudges k lo hi raw start (record { refusal = n; there = p.there; a = p.a; b = p.b })
   unfolding kept_of
-  int_arm e j = so 3 e j.says
+  id_arm e q j = so 4 e (by_place guid (λ x. refl) j q)
 
-  pub id_arm : {n : ℕ} → k ≡ 4 → Judges refusal_in guid raw n → r ≡ as_cell n (words_cell (at start raw)) → RowJudges k lo hi raw start r
+  pub version_arm : {p : Cell} {n : ℕ} → k ≡ 5 → p ≡ cell_as (words_cell (at start raw)) → Judges refusal_in version raw n → RowJudges k lo hi raw start (record { refusal = n; there = p.there; a = p.a; b = p.b })
   unfolding kept_of
-  id_arm e j q = so 4 e (by_place guid (λ x. refl) j q)
+  version_arm e q j = so 5 e (by_place version (λ x. refl) j q)
 
-  pub version_arm : {n : ℕ} → k ≡ 5 → Judges refusal_in version raw n → r ≡ as_cell n (words_cell (at start raw)) → RowJudges k lo hi raw start r
+  -- those that are told by their worth
+  pub int_arm : {r v : Verdict} → r ≡ v → k ≡ 3 → Judges int_of (whole lo hi) raw v → RowJudges k lo hi raw start r
   unfolding kept_of
-  version_arm e j q = so 5 e (by_place version (λ x. refl) j q)
+  int_arm q e j = so 3 e (λ l x. q ∙ j.says l x)
 
-  pub size_arm : (k ≡ 1 → ⊥) → (k ≡ 2 → ⊥) → (k ≡ 3 → ⊥) → (k ≡ 4 → ⊥) → (k ≡ 5 → ⊥) → Judges size_of positive raw r → RowJudges k lo hi raw start r
+  pub size_arm : {r v : Verdict} → r ≡ v → (k ≡ 1 → ⊥) → (k ≡ 2 → ⊥) → (k ≡ 3 → ⊥) → (k ≡ 4 → ⊥) → (k ≡ 5 → ⊥) → Judges size_of positive raw v → RowJudges k lo hi raw start r
   unfolding kept_of
-  size_arm a b c d f j = record { says = λ l x. j.says l x ∙ sym (ap (λ (t : Form). tried_as t (at start raw) (judged t (read_value l))) is) }
+  size_arm q a b c d f j = record { says = λ l x. q ∙ j.says l x ∙ sym (ap (λ (t : Form). tried_as t (at start raw) (judged t (read_value l))) is) }
     where
       is : attribute_form k lo hi ≡ positive
       is = rw (ne_eqb k 1 a, ne_eqb k 2 b, ne_eqb k 3 c, ne_eqb k 4 d, ne_eqb k 5 f)
 
 -- a value that is not there
-pub missing_so : (b : Bool) (o : ℕ) {r : Tried} → eqb o 1 ≡ b → r ≡ lacking b → r ≡ lacking (eqb o 1)
+pub missing_so : (b : Bool) (o : ℕ) {r : Verdict} → eqb o 1 ≡ b → r ≡ lacking b → r ≡ lacking (eqb o 1)
 missing_so b o e q = q ∙ ap lacking (sym e)
 
 -- rows that are attributes
@@ -130,17 +133,17 @@ is_plain c other = ap plain (is_attribute c other) ∙ attribute_plain c.form c.
 pub is_child_lem : (c : Coded) → c.form ≡ 0 → plain (form_of c) ≡ false
 is_child_lem c e = ap (λ (b : Bool). plain (cond b features (attribute_form c.form c.low c.high))) (eq-eqb c.form 0 e)
 
-module _ {s : Bytes} {base : ℕ} {table : List ℕ} {count : ℕ} (carried : Tried) (c : Coded) (other : c.form ≡ 0 → ⊥) where
-  rowed : {r : Tried} → Tries (tried_as (form_of c)) (form_of c) (eqb c.need 1) s base table count (name_at c.line c.len) r → Rowed s base table count carried c r
+module _ {s : Bytes} {base : ℕ} {table : List ℕ} {count : ℕ} (carried : Option ℕ) (c : Coded) (other : c.form ≡ 0 → ⊥) where
+  rowed : {r : Verdict} → Tries (tried_as (form_of c)) (form_of c) (eqb c.need 1) s base table count (name_at c.line c.len) r → Rowed s base table count carried c r
   rowed x = record { says = λ h m f z. x.says h ∙ sym (ap (tried_as (form_of c) (place h (name_at c.line c.len))) (tried_given (form_of c) (name_at c.line c.len) (cond (eqb c.need 1) optional required) (eqb c.need 1) (tree m (pairs h) f) refl (is_plain c other))) }
 
   named : {n : Bytes} {w : Words} → n ≡ name_at c.line c.len → Found s base table count n w → Found s base table count (name_at c.line c.len) w
   named {n} {w} q found = subst (λ (n : Bytes). Found s base table count n w) q found
 
-  pub absent_rowed : {r : Tried} {n : Bytes} {w : Words} → n ≡ name_at c.line c.len → Found s base table count n w → w ≡ Absent → r ≡ lacking (eqb c.need 1) → Rowed s base table count carried c r
+  pub absent_rowed : {r : Verdict} {n : Bytes} {w : Words} → n ≡ name_at c.line c.len → Found s base table count n w → w ≡ Absent → r ≡ lacking (eqb c.need 1) → Rowed s base table count carried c r
   absent_rowed y found e q = rowed (tries_absent (named y found) (tried_as (form_of c)) (form_of c) (eqb c.need 1) e (q ∙ sym (absent_row (form_of c) (eqb c.need 1) (is_plain c other)) ∙ ap (λ (w : Words). tried_as (form_of c) w (without (eqb c.need 1))) (sym e)))
 
-  pub present_rowed : {r : Tried} {n : Bytes} {w : Words} → n ≡ name_at c.line c.len → Found s base table count n w → Held s base table count → (p : Span) → w ≡ Present p
+  pub present_rowed : {r : Verdict} {n : Bytes} {w : Words} → n ≡ name_at c.line c.len → Found s base table count n w → Held s base table count → (p : Span) → w ≡ Present p
       → RowJudges c.form c.low c.high (take (p.start + p.len - p.start) (drop p.start s)) p.start r → Rowed s base table count carried c r
   present_rowed y found held p e j = rowed (tries_present (named y found) (tried_as (form_of c)) (form_of c) (eqb c.need 1) p e (λ l x. j.says l x ∙ sym (ap (λ (t : Form). tried_as t (at p.start (take (p.start + p.len - p.start) (drop p.start s))) (judged t (read_value l))) (is_attribute c other)) ∙ ap (λ (n : ℕ). tried_as (form_of c) (Present (record { start = p.start; len = n })) (judged (form_of c) (read_value l))) long))
     where
@@ -151,7 +154,7 @@ module _ {s : Bytes} {base : ℕ} {table : List ℕ} {count : ℕ} (carried : Tr
           length-take-le (p.start + p.len - p.start) (drop p.start s) (omega arith) ∙ (let y : p.start + p.len - p.start ≡ p.len = omega arith in y)
 
 -- the row that is a child
-pub child_rowed : {s : Bytes} {base : ℕ} {table : List ℕ} {count : ℕ} (found : Tried) (c : Coded) {r : Tried} → c.form ≡ 0 → r ≡ carried_by found (eqb c.need 1) → Rowed s base table count found c r
+pub child_rowed : {s : Bytes} {base : ℕ} {table : List ℕ} {count : ℕ} (found : Option ℕ) (c : Coded) {r : Verdict} → c.form ≡ 0 → r ≡ carried_by found (eqb c.need 1) → Rowed s base table count found c r
 unfolding kept_of tried
 child_rowed found c {r} e q = record {
   says = λ h m f z. q ∙ z e (eqb c.need 1) ∙ sym (

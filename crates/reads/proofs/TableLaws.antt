@@ -7,6 +7,7 @@ use native.Mathlib.Omega.{arith}
 use lib.ListN.{length}
 use lib.Dec.{eqb, leb}
 use borrow.Author.Tests.{eq-eqb, eqb-true, leb-true, leb-false}
+use Rattle.std.specs.Prelude.{Option}
 use Rattle.exact.specs.Chain.{clash}
 use Rattle.grammar.specs.Bytes.{Bytes, same}
 use Rattle.grammar.specs.Tree.{Forest}
@@ -20,7 +21,6 @@ use Rattle.message.specs.Cells.{ROWS as MOST}
 use Rattle.message.proofs.GuidLaws.{few_rows}
 use Rattle.reads.specs.Kept.{SUPPORTED, Carried, Sorted}
 use Rattle.reads.specs.declared.features.Sort.{Sort}
-use Rattle.reads.specs.declared.tried.Tried.{Tried}
 use Rattle.reads.proofs.RowLaws.{plain, is_child_lem}
 
 pub room : {k : ℕ} {r : Range} → RowsAt k r → r.count ≤ MOST
@@ -56,7 +56,7 @@ unfolding coded_at numbers names table
 named_so = refl
 
 -- each of n rows from the j-th on that is a child was looked for in f
-abbrev pub Fed : Tried → ℕ → ℕ → Forest → Type 0
+abbrev pub Fed : Option ℕ → ℕ → ℕ → Forest → Type 0
 Fed t j n f = (i : ℕ) → i < n → (coded_at (j + i)).form ≡ 0 → Carried (row_of (coded_at (j + i))).name t f
 
 pub only_features : (k : Sort) {r : Range} → RowsAt k.kind r → (f : Forest) → Sorted k f → Fed k.features r.from r.count f

@@ -4,7 +4,6 @@ ghost use Rattle.rows.specs.Coding.{LINES, name_at};
 ghost use Rattle.reads.specs.Children.{unnamed_child, FirstIn};
 ghost use Rattle.reads.specs.Kept.{NotesIn, Supports, Sorts};
 
-use crate::tried::{Tried, number};
 use lane::Kind;
 use rows::data::{NAMES, WIDTH, name_at};
 use rows::kind_named;
@@ -86,7 +85,7 @@ fn line_of(line: usize) -> [u8; WIDTH]
 }
 
 // Which features stand in the content behind a start tag. Their names stand on the lines 0 to 2.
-fn noted(s: &[u8], inside: usize) -> Tried
+fn noted(s: &[u8], inside: usize) -> u64
     ensures { NotesIn s.now inside result }
 {
     let name = line_of(0);
@@ -98,26 +97,26 @@ fn noted(s: &[u8], inside: usize) -> Tried
     let a = bit(forecast.found, 1);
     let b = bit(query.found, 2);
     let c = bit(send.found, 4);
-    number(0, 1, a + (b + c))
+    a + (b + c)
 }
 
 // The first child SupportedFeatures, whose name stands on line 6, and which features stand in it.
-fn supported(s: &[u8], inside: usize) -> Tried
+fn supported(s: &[u8], inside: usize) -> Option<u64>
     ensures { Supports s.now inside result }
 {
     let name = line_of(6);
     let c = first_child(s, inside, &name[0..17]);
     if c.found {
-        return noted(s, c.inside);
+        return Some(noted(s, c.inside));
     }
-    number(0, 0, 0)
+    None
 }
 
 /// An element's kind, and of one that has them its features.
 #[derive(Clone, Copy)]
 pub struct Sort {
     pub kind: u8,
-    pub features: Tried,
+    pub features: Option<u64>,
 }
 
 /// The kind of the element whose name stands from `from` to `to`, and its features; `inside` is the place behind its start tag, 0 of an empty tag.
@@ -130,6 +129,8 @@ pub fn sort_of(s: &[u8], from: usize, to: usize, inside: usize) -> Sort
         let features = supported(s, inside);
         return Sort { kind, features };
     }
-    let features = number(0, 0, 0);
-    Sort { kind, features }
+    Sort {
+        kind,
+        features: None,
+    }
 }

@@ -6,6 +6,7 @@ ghost use Rattle.message.specs.Messages.{id_cell};
 ghost use Rattle.reads.specs.Ids.{IdOf, IdAt, TakesId};
 
 use crate::kind_rows::put;
+use crate::tried::Cell;
 use rows::data::{NO_ID, id_cell};
 
 // The lesser of both.
@@ -83,7 +84,7 @@ pub fn take_id(s: &[u8], kind: u8, cells: &mut [u64]) -> [u8; 36]
     let there = cells[at];
     let start = cells[at + 1] as usize;
     let len = cells[at + 2] as usize;
-    put(&mut *cells, at, there, 0, 0);
+    put(&mut *cells, at, Cell { there, a: 0, b: 0 });
     if there == 0 {
         return [0u8; 36];
     }

@@ -1,117 +1,105 @@
 // Raw values judged, each by the form that its row asks for.
 ghost use Rattle.std.specs.Prelude.{◌≡◌, ◌≤◌};
+ghost use Rattle.refusals.specs.Numbers.{told};
 ghost use Rattle.table.specs.Table.{words, some_words, whole, guid as a_guid, version as aVersion, positive};
-ghost use Rattle.table.specs.Says.{refusal_in, refused};
-ghost use Rattle.reads.specs.Kept.{int_of, size_of, Judges, RowJudges};
+ghost use Rattle.table.specs.Says.{refusal_in};
+ghost use Rattle.reads.specs.Kept.{int_of, size_of, verdict_in, verdict_of, Judges, RowJudges};
 
-use crate::tried::{Tried, number, span};
+use crate::tried::{Cell, Tried};
 use number::WholeRead;
+use refusals::Refusal;
 use rows::data::Row;
 
 /// A text of at most so many bytes. What a value reads as is no longer than the value.
-pub fn text(raw: &[u8], limit: usize) -> u8
-    ensures { Judges refusal_in (words limit) raw.now result }
+pub fn text(raw: &[u8], limit: usize) -> Result<(), Refusal>
+    ensures { Judges refusal_in (words limit) raw.now (told result) }
 {
     if raw.len() <= limit {
-        return 0;
+        return Ok(());
     }
-    let Some(n) = decodes::text_len(raw) else {
-        return 5;
+    let Some(size) = decodes::text_len(raw) else {
+        return Err(Refusal::TextTooLong);
     };
-    let size = n;
     if size <= limit {
-        return 0;
+        return Ok(());
     }
-    5
+    Err(Refusal::TextTooLong)
 }
 
 /// A text of at least one and at most so many bytes.
-pub fn some_text(raw: &[u8], limit: usize) -> u8
-    ensures { Judges refusal_in (some_words limit) raw.now result }
+pub fn some_text(raw: &[u8], limit: usize) -> Result<(), Refusal>
+    ensures { Judges refusal_in (some_words limit) raw.now (told result) }
 {
     if raw.len() == 0 {
-        return 6;
+        return Err(Refusal::BadValue);
     }
     text(raw, limit)
 }
 
 /// A GUID.
-pub fn guid(raw: &[u8]) -> u8
-    ensures { Judges refusal_in a_guid raw.now result }
+pub fn guid(raw: &[u8]) -> Result<(), Refusal>
+    ensures { Judges refusal_in a_guid raw.now (told result) }
 {
     if decodes::guid_at(raw) {
-        return 0;
+        return Ok(());
     }
-    6
+    Err(Refusal::BadValue)
 }
 
 /// A Version.
-pub fn version(raw: &[u8]) -> u8
-    ensures { Judges refusal_in aVersion raw.now result }
+pub fn version(raw: &[u8]) -> Result<(), Refusal>
+    ensures { Judges refusal_in aVersion raw.now (told result) }
 {
     if decodes::version_at(raw) {
-        return 0;
+        return Ok(());
     }
-    6
-}
-
-// A bad value.
-fn bad() -> Tried
-    ensures { result ≡ int_of (refused 6) }
-{
-    number(6, 0, 0)
+    Err(Refusal::BadValue)
 }
 
 /// An int from lo to hi.
-pub fn int(raw: &[u8], lo: u64, hi: u64) -> Tried
+pub fn int(raw: &[u8], lo: u64, hi: u64) -> Result<Cell, Refusal>
     requires { hi ≤ 65535 }
-    ensures { Judges int_of (whole lo hi) raw.now result }
+    ensures { Judges int_of (whole lo hi) raw.now (verdict_in result) }
 {
-    let w = decodes::int_at(raw);
-    let WholeRead::Is(minus, size) = w else {
-        return bad();
+    let WholeRead::Is(minus, size) = decodes::int_at(raw) else {
+        return Err(Refusal::BadValue);
     };
     let n = size as u64;
-    if minus {
-        return bad();
+    if minus || n < lo || hi < n {
+        return Err(Refusal::BadValue);
     }
-    if n < lo {
-        return bad();
-    }
-    if hi < n {
-        return bad();
-    }
-    number(0, 1, n)
+    Ok(Cell::number(n))
 }
 
 /// A positive number.
-pub fn size(raw: &[u8]) -> Tried
-    ensures { Judges size_of positive raw.now result }
+pub fn size(raw: &[u8]) -> Result<Cell, Refusal>
+    ensures { Judges size_of positive raw.now (verdict_in result) }
 {
     let n = decodes::number_at(raw);
     if n.ok {
-        return Tried {
-            refusal: 0,
+        return Ok(Cell {
             there: 1,
             a: n.millionths,
             b: n.decimals,
-        };
+        });
     }
-    bad()
+    Err(Refusal::BadValue)
 }
 
 /// A value that starts there, by the form of its row, which is not 0.
 pub fn judged(raw: &[u8], start: usize, row: Row) -> Tried
     requires { row.high ≤ 65535 }
-    ensures { RowJudges row.form row.low row.high raw.now start result }
+    ensures { RowJudges row.form row.low row.high raw.now start (verdict_of result) }
 {
+    let cell = Cell::place(start, raw.len());
     let form = row.form;
-    match form {
-        1 => span(text(raw, row.high as usize), start, raw.len()),
-        2 => span(some_text(raw, row.high as usize), start, raw.len()),
-        3 => int(raw, row.low, row.high),
-        4 => span(guid(raw), start, raw.len()),
-        5 => span(version(raw), start, raw.len()),
-        _ => size(raw),
-    }
+    let answer = match form {
+        1 => text(raw, row.high as usize),
+        2 => some_text(raw, row.high as usize),
+        3 => return Tried::from(int(raw, row.low, row.high)),
+        4 => guid(raw),
+        5 => version(raw),
+        _ => return Tried::from(size(raw)),
+    };
+    Tried { cell, answer }
 }

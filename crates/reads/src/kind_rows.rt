@@ -1,23 +1,25 @@
 // The rows of a kind, one after the other.
 ghost use Rattle.std.specs.Prelude.{◌≡◌, ◌∷◌, ◌++◌, ◌≤◌, ◌<◌, ◌+◌, length, take, drop};
+ghost use Rattle.refusals.specs.Numbers.{told};
 ghost use Rattle.rows.specs.Coding.{numbers as coding, names as letters, MOST};
 ghost use Rattle.message.specs.Cells.{NUMBERS};
 ghost use Rattle.reads.specs.Held.{Held};
 ghost use Rattle.reads.specs.Kept.{AllRowed};
 
 use crate::features::Sort;
-use crate::first::first;
+use crate::tried::Cell;
 use crate::trying::try_row;
+use refusals::Refusal;
 use rows::data::{row_at, rows_of};
 
-/// Three numbers put down.
-pub fn put(cells: &mut [u64], at: usize, there: u64, a: u64, b: u64)
+/// A cell put down.
+pub fn put(cells: &mut [u64], at: usize, cell: Cell)
     requires { at + 3 ≤ length cells.old }
-    ensures { cells.new ≡ take at cells.old ++ (there ∷ a ∷ b ∷ drop (at + 3) cells.old) }
+    ensures { cells.new ≡ take at cells.old ++ (cell.there ∷ cell.a ∷ cell.b ∷ drop (at + 3) cells.old) }
 {
-    cells[at] = there;
-    cells[at + 1] = a;
-    cells[at + 2] = b;
+    cells[at] = cell.there;
+    cells[at + 1] = cell.a;
+    cells[at + 2] = cell.b;
 }
 
 // Behind an attribute that was found, the next is looked for first.
@@ -41,24 +43,24 @@ pub fn check_rows(
     numbers: &[u64],
     names: &[u8],
     cells: &mut [u64],
-) -> u8
+) -> Result<(), Refusal>
     requires { Held s.now base table.now count × (numbers.now ≡ coding) × (names.now ≡ letters) × (NUMBERS ≤ length cells.old) }
-    ensures { AllRowed s.now base table.now count sort cells.old cells.new result }
+    ensures { AllRowed s.now base table.now count sort cells.old cells.new (told result) }
 {
     let range = rows_of(sort.kind);
     let features = sort.features;
     let from = range.from;
     let n = range.count;
-    let mut refusal = 0;
+    let mut answer = Ok(());
     let mut guess = 0;
     let mut i = 0;
     while i < n {
         let row = row_at(numbers, from + i);
-        let t = try_row(s, base, table, count, guess, features, names, row);
-        put(&mut *cells, 3 * i, t.there, t.a, t.b);
-        refusal = first(refusal, t.refusal);
-        guess = behind(guess, t.there);
+        let tried = try_row(s, base, table, count, guess, features, names, row);
+        put(&mut *cells, 3 * i, tried.cell);
+        answer = answer.and(tried.answer);
+        guess = behind(guess, tried.cell.there);
         i += 1;
     }
-    refusal
+    answer
 }

@@ -5,7 +5,6 @@
 mod checking;
 pub mod features;
 pub mod find;
-mod first;
 mod ids;
 mod judge;
 mod kind_rows;

@@ -1,58 +1,95 @@
 // What a row says.
-ghost use Rattle.std.specs.Prelude.{◌≡◌, [], ◌∷◌, eqb};
-ghost use Rattle.value.specs.declared.text.Words.TheVariants.{Present};
+ghost use Rattle.std.specs.Prelude.{◌≡◌, [], ◌∷◌, Some, eqb};
 ghost use Rattle.message.specs.Cells.{words_cell};
-ghost use Rattle.reads.specs.Kept.{as_cell, lacking, carried_by};
+ghost use Rattle.value.specs.declared.text.Words.TheVariants.{Present};
+ghost use Rattle.reads.specs.Kept.{cell_as, lacking, carried_by, verdict_in, verdict_of};
 
-/// A row tried: its refusal, and the three numbers of its cell.
+use refusals::Refusal;
+
+/// The three numbers that are put down for a row: whether its value is there, and two that tell it.
 #[derive(Clone, Copy)]
-pub struct Tried {
-    pub refusal: u8,
+pub struct Cell {
     pub there: u64,
     pub a: u64,
     pub b: u64,
 }
 
-/// A value that is one number, or none.
-pub fn number(refusal: u8, there: u64, a: u64) -> Tried
-    ensures { result ≡ as_cell refusal (there ∷ a ∷ 0 ∷ []) }
-{
-    Tried {
-        refusal: refusal,
-        there: there,
-        a: a,
-        b: 0,
+impl Cell {
+    /// Of a value that is not there.
+    pub fn empty() -> Cell
+        ensures { result ≡ cell_as (0 ∷ 0 ∷ 0 ∷ []) }
+    {
+        Cell {
+            there: 0,
+            a: 0,
+            b: 0,
+        }
+    }
+
+    /// Of a value that is one number.
+    pub fn number(number: u64) -> Cell
+        ensures { result ≡ cell_as (1 ∷ number ∷ 0 ∷ []) }
+    {
+        Cell {
+            there: 1,
+            a: number,
+            b: 0,
+        }
+    }
+
+    /// Of a value that is told by its place.
+    pub fn place(start: usize, len: usize) -> Cell
+        ensures { result ≡ cell_as (words_cell (Present (record { start = start; len = len }))) }
+    {
+        Cell {
+            there: 1,
+            a: start as u64,
+            b: len as u64,
+        }
     }
 }
 
-/// A value that is told by its place.
-pub fn span(refusal: u8, start: usize, len: usize) -> Tried
-    ensures { result ≡ as_cell refusal (words_cell (Present (record { start = start; len = len }))) }
-{
-    Tried {
-        refusal: refusal,
-        there: 1,
-        a: start as u64,
-        b: len as u64,
+/// A row tried: what is put down for it, and whether it is refused.
+// They stand side by side since `check_cells` promises (CellsChecked) that a text, a GUID or a version has its place in its cell even where it is refused.
+#[derive(Clone, Copy)]
+pub struct Tried {
+    pub cell: Cell,
+    pub answer: Result<(), Refusal>,
+}
+
+impl From<Result<Cell, Refusal>> for Tried {
+    ghost from_gives = { λ worth tried. verdict_of tried ≡ verdict_in worth };
+
+    fn from(worth: Result<Cell, Refusal>) -> Tried {
+        match worth {
+            Ok(cell) => Tried {
+                cell,
+                answer: Ok(()),
+            },
+            Err(refusal) => Tried {
+                cell: Cell::empty(),
+                answer: Err(refusal),
+            },
+        }
     }
 }
 
 /// A value that is not there.
-pub fn missing(need: u64) -> Tried
-    ensures { result ≡ lacking (eqb need 1) }
+pub fn missing(need: u64) -> Result<Cell, Refusal>
+    ensures { verdict_in result ≡ lacking (eqb need 1) }
 {
     if need == 1 {
-        return number(0, 0, 0);
+        return Ok(Cell::empty());
     }
-    number(4, 0, 0)
+    Err(Refusal::Missing)
 }
 
-/// A child that was looked for before.
-pub fn carried(found: Tried, need: u64) -> Tried
-    ensures { result ≡ carried_by found (eqb need 1) }
+/// A child that was looked for before, with the features in it.
+pub fn carried(features: Option<u64>, need: u64) -> Result<Cell, Refusal>
+    ensures { verdict_in result ≡ carried_by features (eqb need 1) }
 {
-    if found.there == 0 {
-        return missing(need);
+    match features {
+        Some(bits) => Ok(Cell::number(bits)),
+        None => missing(need),
     }
-    found
 }

@@ -2,7 +2,7 @@
 ghost use Rattle.std.specs.Prelude.{◌≡◌};
 ghost use Rattle.rows.specs.Coding.{names as letters, Sound};
 ghost use Rattle.reads.specs.Held.{Held};
-ghost use Rattle.reads.specs.Kept.{Rowed};
+ghost use Rattle.reads.specs.Kept.{verdict_of, Rowed};
 
 use crate::find::find;
 use crate::judge::judged;
@@ -17,21 +17,21 @@ pub fn try_row(
     table: &[u16],
     count: usize,
     guess: usize,
-    features: Tried,
+    features: Option<u64>,
     names: &[u8],
     row: Row,
 ) -> Tried
     requires { Held s.now base table.now count × (names.now ≡ letters) × Sound row }
-    ensures { Rowed s.now base table.now count features row result }
+    ensures { Rowed s.now base table.now count features row (verdict_of result) }
 {
     let form = row.form;
     if form == 0 {
-        return carried(features, row.need);
+        return Tried::from(carried(features, row.need));
     }
     let name = name_at(names, row.line as usize, row.len as usize);
     let w = find(s, base, table, count, guess, name);
     let Words::Present(p) = w else {
-        return missing(row.need);
+        return Tried::from(missing(row.need));
     };
     let start = p.start;
     let len = p.len;

@@ -1,12 +1,14 @@
 // A message read and its rows tried.
 ghost use Rattle.std.specs.Prelude.{◌≡◌, ◌≤◌, length};
 ghost use Rattle.message.specs.Cells.{NUMBERS as MOST};
+ghost use Rattle.refusals.specs.Numbers.{told};
 ghost use Rattle.reads.specs.Kept.{Sorts};
 ghost use Rattle.reads.specs.Whole.{outcome_of, Sketched, CellsChecked};
 
 use crate::features::{Sort, sort_of};
 use crate::kind_rows::check_rows;
 use reader::answer::{Answer, Outline};
+use refusals::{Refusal, told};
 use rows::data::{NAMES, NUMBERS};
 use tags::attributes::PLACES;
 
@@ -20,15 +22,15 @@ pub struct Outcome {
     pub place: usize,
 }
 
-fn made(refusal: u8, kind: u8, start: usize, end: usize, place: usize) -> Outcome
-    ensures { result ≡ outcome_of refusal kind start end place }
+fn made(answer: Result<(), Refusal>, kind: u8, start: usize, end: usize, place: usize) -> Outcome
+    ensures { result ≡ outcome_of (told answer) kind start end place }
 {
     Outcome {
-        refusal: refusal,
-        kind: kind,
-        start: start,
-        end: end,
-        place: place,
+        refusal: told(answer),
+        kind,
+        start,
+        end,
+        place,
     }
 }
 
@@ -44,12 +46,12 @@ pub fn tell(s: &[u8], o: Outline, sort: Sort, table: &[u16], cells: &mut [u64]) 
             let kind = sort.kind;
             let numbers = NUMBERS;
             let names = NAMES;
-            let refusal = check_rows(s, to, table, o.count, sort, &numbers, &names, cells);
-            made(refusal, kind, start, end, 0)
+            let answer = check_rows(s, to, table, o.count, sort, &numbers, &names, cells);
+            made(answer, kind, start, end, 0)
         }
-        Answer::More { start } => made(1, 0, start, 0, 0),
-        Answer::Malformed { start, place } => made(2, 0, start, 0, place),
-        Answer::TooLong { start } => made(3, 0, start, 0, 0),
+        Answer::More { start } => made(Err(Refusal::Incomplete), 0, start, 0, 0),
+        Answer::Malformed { start, place } => made(Err(Refusal::Malformed), 0, start, 0, place),
+        Answer::TooLong { start } => made(Err(Refusal::MessageTooLong), 0, start, 0, 0),
     }
 }
 

@@ -8,4 +8,4 @@ pub returns-then-n : goal.returns-then-n
 returns-then-n c = size_good c.number_at-n.ensures c.if-n.true refl
 
 pub returns : goal.returns
-returns c = size_bad c.number_at-n.ensures c.if-n.false c.bad.ensures
+returns c = size_bad c.number_at-n.ensures c.if-n.false refl

@@ -2,7 +2,6 @@
 use Rattle.reads.proofs.JudgeLaws.{text_short, text_unread, text_fits, text_long}
 use Rattle.reads.proofs.judge.text.Goals as goal
 
--- Each answer by how long the text is.
 pub returns-then-raw-limit : goal.returns-then-raw-limit
 returns-then-raw-limit c = text_short c.args.limit c.if-raw-limit.true
 

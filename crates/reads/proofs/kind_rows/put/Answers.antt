@@ -12,4 +12,4 @@ pub bounds-cells-at-3 : goal.bounds-cells-at-3
 bounds-cells-at-3 c = simp length-set (omega arith)
 
 pub returns : goal.returns
-returns c = put_three c.args.cells.now c.args.at c.args.there c.args.a c.args.b c.requires
+returns c = put_three c.args.cells.now c.args.at c.args.cell.there c.args.cell.a c.args.cell.b c.requires

@@ -7,12 +7,12 @@ use Rattle.reads.proofs.WholeLaws.{cells_end, cells_more, cells_malformed, cells
 use Rattle.reads.proofs.whole.tell.Goals as goal
 
 -- Each answer by the outline.
-pub check_rows-refusal-requires : goal.check_rows-refusal-requires
+pub check_rows-answer-requires : goal.check_rows-answer-requires
 unfolding numbers names table
-check_rows-refusal-requires c = (accepted_held (accepted c.requires.1.outlined c.in-Ends.is) c.requires.1.whole, refl, refl, c.requires.0)
+check_rows-answer-requires c = (accepted_held (accepted c.requires.1.outlined c.in-Ends.is) c.requires.1.whole, refl, refl, c.requires.0)
 
 pub returns-in-Ends : goal.returns-in-Ends
-returns-in-Ends c = cells_end c.requires.1.outlined c.in-Ends.start c.in-Ends.end c.requires.1.whole c.in-Ends.is c.requires.2 c.check_rows-refusal.ensures c.made.ensures
+returns-in-Ends c = cells_end c.requires.1.outlined c.in-Ends.start c.in-Ends.end c.requires.1.whole c.in-Ends.is c.requires.2 c.check_rows-answer.ensures c.made.ensures
 
 pub returns-in-More : goal.returns-in-More
 returns-in-More c = cells_more c.requires.1.outlined c.in-More.start c.in-More.is c.made-in-More.ensures
