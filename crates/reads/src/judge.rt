@@ -6,7 +6,6 @@ ghost use Rattle.table.specs.Says.{refusal_in};
 ghost use Rattle.reads.specs.Kept.{int_of, size_of, verdict_in, verdict_of, Judges, RowJudges};
 
 use crate::tried::{Cell, Tried};
-use number::WholeRead;
 use refusals::Refusal;
 use rows::data::Row;
 
@@ -61,11 +60,11 @@ pub fn int(raw: &[u8], lo: u64, hi: u64) -> Result<Cell, Refusal>
     requires { hi ≤ 65535 }
     ensures { Judges int_of (whole lo hi) raw.now (verdict_in result) }
 {
-    let WholeRead::Is(minus, size) = decodes::int_at(raw) else {
+    let Some(i) = decodes::int_at(raw) else {
         return Err(Refusal::BadValue);
     };
-    let n = size as u64;
-    if minus || n < lo || hi < n {
+    let n = i.size as u64;
+    if i.negative || n < lo || hi < n {
         return Err(Refusal::BadValue);
     }
     Ok(Cell::number(n))
@@ -75,15 +74,14 @@ pub fn int(raw: &[u8], lo: u64, hi: u64) -> Result<Cell, Refusal>
 pub fn size(raw: &[u8]) -> Result<Cell, Refusal>
     ensures { Judges size_of positive raw.now (verdict_in result) }
 {
-    let n = decodes::number_at(raw);
-    if n.ok {
-        return Ok(Cell {
-            there: 1,
-            a: n.millionths,
-            b: n.decimals,
-        });
-    }
-    Err(Refusal::BadValue)
+    let Some(n) = decodes::number_at(raw) else {
+        return Err(Refusal::BadValue);
+    };
+    Ok(Cell {
+        there: 1,
+        a: n.millionths,
+        b: n.decimals,
+    })
 }
 
 /// A value that starts there, by the form of its row, which is not 0.

@@ -1,10 +1,10 @@
-use Rattle.numerals.specs.Scan.{whole_end}
+use Rattle.numerals.specs.Scan.{whole_end, millionths_of}
 use Rattle.numerals.proofs.positive.whole_end.Goals as goal
 
 pub returns-then-minus : goal.returns-then-minus
-unfolding whole_end
-returns-then-minus c = rw c.if-minus.true c.bad_number.ensures
+unfolding whole_end millionths_of
+returns-then-minus c = rw c.if-minus.true
 
-pub returns : goal.returns
+pub returns-else-minus : goal.returns-else-minus
 unfolding whole_end
-returns c = rw c.if-minus.false c.power_end.ensures
+returns-else-minus c = rw c.if-minus.false c.power_end.ensures
