@@ -7,7 +7,7 @@ use native.Mathlib.Omega.{arith}
 use lib.ListN.{length, take, drop}
 use lib.Dec.{eqb}
 use borrow.Author.Tests.{eq-eqb, ne_eqb}
-use Rattle.std.specs.Prelude.{Option}
+use Rattle.std.specs.Prelude.{Option, None, Some}
 use Rattle.refusals.specs.Numbers.{number_of}
 use Rattle.refusals.specs.declared.Refusal.{Refusal}
 use Rattle.refusals.specs.declared.Refusal.TheVariants.{Incomplete, Malformed, MessageTooLong, Missing, TextTooLong, BadValue, NoRoom, MayNotBeSent, ProtocolError}
@@ -33,7 +33,7 @@ use Rattle.reads.specs.declared.features.Sort.{Sort}
 use Rattle.reads.proofs.OutlineLaws.{child, accepted, answers, accepted_held, accepted_holds}
 use Rattle.reads.proofs.TableLaws.{Fed}
 use Rattle.reads.proofs.WholeLaws.{as_read_lem}
-use Rattle.decides.specs.Deciding.{value_in, unruled, ruled_by, first_refused, decided_by, undecided, Decides, ends, more, malformed, too_long}
+use Rattle.decides.specs.Deciding.{value_in, ruled_by, first_refused, decided_by, undecided, Decides, ends, more, malformed, too_long}
 use Rattle.decides.specs.Ruled.{Stands, Rules}
 use Rattle.decides.specs.declared.Ruling.{Ruling}
 use Rattle.decides.specs.declared.Decision.{Decision}
@@ -64,11 +64,11 @@ pub record Tried-so-far (s : Bytes) (base : ℕ) (table : List ℕ) (count : ℕ
   pub upto : i ≤ n
   pub rules : (h : Held s base table count) (m : Bytes) (f : Forest) → Fed found from n f → first_refused i (rows_from (from + i) (n - i)) (place h) (tree m (pairs h) f) ≡ first_refused 0 (rows_from from n) (place h) (tree m (pairs h) f)
 
-ruled_zero : (n i : ℕ) (w : Words) (x : Ruling) → n ≡ 0 → ruled_by n i w x ≡ x
+ruled_zero : (n i : ℕ) (w : Words) (x : Option Ruling) → n ≡ 0 → ruled_by n i w x ≡ x
 ruled_zero zero i w x e = refl
 ruled_zero (suc n) i w x e = absurd (omega arith)
 
-ruled_some : (n i : ℕ) (w : Words) (x : Ruling) → (n ≡ 0 → ⊥) → ruled_by n i w x ≡ record { refusal = n; row = i; value = w }
+ruled_some : (n i : ℕ) (w : Words) (x : Option Ruling) → (n ≡ 0 → ⊥) → ruled_by n i w x ≡ Some (record { refusal = n; row = i; value = w })
 ruled_some zero i w x e = absurd (e refl)
 ruled_some (suc n) i w x e = refl
 
@@ -103,17 +103,17 @@ module _ (s : Bytes) (base : ℕ) (table : List ℕ) (count : ℕ) (found : Opti
     pub rule_goes_on : t.refusal ≡ 0 → Tried-so-far s base table count found from n (i + 1)
     rule_goes_on e = record { upto = omega arith; rules = λ k m f z. (let a : i + 1 ≡ suc i = omega arith in ap (λ (j : ℕ). first_refused j (rows_from (from + (i + 1)) (n - (i + 1))) (place k) (tree m (pairs k) f)) a ∙ sym (ruled_zero t.refusal i (value_in line.form (place k line.name)) (first_refused (suc i) (rows_from (from + (i + 1)) (n - (i + 1))) (place k) (tree m (pairs k) f)) e) ∙ at_row k m f z) }
 
-    pub rule_found : {r : Ruling} {w : Words} (sort : Sort) → rows_of sort.kind ≡ rows_from from n → ((f : Forest) → Sorted sort f → Fed found from n f) → (t.refusal ≡ 0 → ⊥) → Stands s base table count (coded_at (from + i)) w → r ≡ record { refusal = t.refusal; row = i; value = w } → Rules s base table count sort r
+    pub rule_found : {r : Option Ruling} {w : Words} (sort : Sort) → rows_of sort.kind ≡ rows_from from n → ((f : Forest) → Sorted sort f → Fed found from n f) → (t.refusal ≡ 0 → ⊥) → Stands s base table count (coded_at (from + i)) w → r ≡ Some (record { refusal = t.refusal; row = i; value = w }) → Rules s base table count sort r
     unfolding line
-    rule_found {r} {w} sort e fed some stands q = record { says = λ k m f z. q ∙ ap (λ (w : Words). record { refusal = t.refusal; row = i; value = w }) (stands.says k) ∙ sym (ruled_some t.refusal i (value_in line.form (place k line.name)) (first_refused (suc i) (rows_from (from + (i + 1)) (n - (i + 1))) (place k) (tree m (pairs k) f)) some) ∙ at_row k m f (fed f z) ∙ ap (λ (l : List Row). first_refused 0 l (place k) (tree m (pairs k) f)) (sym e) }
+    rule_found {r} {w} sort e fed some stands q = record { says = λ k m f z. q ∙ ap (λ (w : Words). Some (record { refusal = t.refusal; row = i; value = w })) (stands.says k) ∙ sym (ruled_some t.refusal i (value_in line.form (place k line.name)) (first_refused (suc i) (rows_from (from + (i + 1)) (n - (i + 1))) (place k) (tree m (pairs k) f)) some) ∙ at_row k m f (fed f z) ∙ ap (λ (l : List Row). first_refused 0 l (place k) (tree m (pairs k) f)) (sym e) }
 
-  pub rule_ends : {i : ℕ} {r : Ruling} (sort : Sort) → rows_of sort.kind ≡ rows_from from n → ((f : Forest) → Sorted sort f → Fed found from n f) → Tried-so-far s base table count found from n i → n ≤ i → r ≡ unruled → Rules s base table count sort r
+  pub rule_ends : {i : ℕ} {r : Option Ruling} (sort : Sort) → rows_of sort.kind ≡ rows_from from n → ((f : Forest) → Sorted sort f → Fed found from n f) → Tried-so-far s base table count found from n i → n ≤ i → r ≡ None → Rules s base table count sort r
   unfolding first_refused
   rule_ends {i} sort e fed g h q = record { says = λ k m f z. q ∙ ap (λ (l : List Row). first_refused i l (place k) (tree m (pairs k) f)) (sym (no_row from n i h)) ∙ g.rules k m f (fed f z) ∙ ap (λ (l : List Row). first_refused 0 l (place k) (tree m (pairs k) f)) (sym e) }
 
 -- of the message that an outline describes
 module _ {s : Bytes} {old new : List ℕ} {o : Outline} (p : Outlined s old new o) where
-  pub decides_end : (start end : ℕ) {k : Sort} {x : Ruling} {r : Decision} → length old ≡ 128 → o.answer ≡ Ends start end → Sorts s o.from o.to o.inside k → Rules s o.to new o.count k x → r ≡ decided_by k.kind x → Decides s r
+  pub decides_end : (start end : ℕ) {k : Sort} {x : Option Ruling} {r : Decision} → length old ≡ 128 → o.answer ≡ Ends start end → Sorts s o.from o.to o.inside k → Rules s o.to new o.count k x → r ≡ decided_by k.kind x → Decides s r
   decides_end start end {k} {x} long e q t h =
       let a = accepted p e in
       ends start end (answers p e) a.layout a.laid

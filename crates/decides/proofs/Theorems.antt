@@ -5,6 +5,7 @@ use Prim.Native.Nat.{ℕ, zero, suc, ◌+◌, ◌-◌}
 use native.Mathlib.Omega.{arith}
 use lib.ListN.{length, length-append, length-drop, take, drop}
 use lib.Seq.{drop-append-le, take-append-le}
+use Rattle.std.specs.Prelude.{Option, None, Some}
 use Rattle.grammar.specs.Bytes.{Bytes}
 use Rattle.grammar.specs.Tree.{Tree}
 use Rattle.grammar.specs.Message.{Layout, Laid, read_layout}
@@ -16,7 +17,7 @@ use Rattle.table.specs.Table.{Row, Entry}
 use Rattle.table.specs.Says.{refusal_in, tried, first, refusal_of, child_of, rows_for, said_in}
 use Rattle.message.specs.Checked.{places_in, ChecksBy, ends as ends_so, more as more_so, malformed as malformed_so, too_long as too_long_so}
 use Rattle.message.specs.declared.checking.Checked.{Checked}
-use Rattle.decides.specs.Deciding.{value_in, ruled_by, first_refused, decided_in, undecided, DecidesBy, ends, more, malformed, too_long}
+use Rattle.decides.specs.Deciding.{value_in, ruled_by, first_refused, decided_by, decided_in, undecided, DecidesBy, ends, more, malformed, too_long}
 use Rattle.decides.specs.declared.Ruling.{Ruling}
 use Rattle.decides.specs.declared.Decision.{Decision}
 
@@ -46,13 +47,21 @@ decided_only {by} {s} {r} {r'} p q =
     let (a', x', y') = answered q in
     same_result by s a y (subst (λ (b : PaperAnswer). ResultOf by s b r') (sym (answers_only s a a' x x')) y')
 
--- what rules over rows refuses as they do
-pub ruled_refusal : (i : ℕ) (l : List Row) (place : Bytes → Words) (t : Tree) → (first_refused i l place t).refusal ≡ refusal_of l t
+-- what rules over rows refuses as they do, by 0 if none does
+abbrev pub refused_by : Option Ruling → ℕ
+refused_by None = 0
+refused_by (Some x) = x.refusal
+
+decision_refuses : (k : ℕ) (x : Option Ruling) → (decided_by k x).refusal ≡ refused_by x
+decision_refuses k None = refl
+decision_refuses k (Some x) = refl
+
+pub ruled_refusal : (i : ℕ) (l : List Row) (place : Bytes → Words) (t : Tree) → refused_by (first_refused i l place t) ≡ refusal_of l t
 unfolding first_refused refusal_of
 ruled_refusal i [] place t = refl
 ruled_refusal i (r ∷ l) place t = go (refusal_in (tried r t)) (ruled_refusal (suc i) l place t)
   where
-    go : (n : ℕ) → (first_refused (suc i) l place t).refusal ≡ refusal_of l t → (ruled_by n i (value_in r.form (place r.name)) (first_refused (suc i) l place t)).refusal ≡ first n (refusal_of l t)
+    go : (n : ℕ) → refused_by (first_refused (suc i) l place t) ≡ refusal_of l t → refused_by (ruled_by n i (value_in r.form (place r.name)) (first_refused (suc i) l place t)) ≡ first n (refusal_of l t)
     go zero e = e
     go (suc n) e = refl
 
@@ -70,7 +79,7 @@ checked_refuses (malformed_so start place p e) = (malformed_at start place, p, a
 checked_refuses (too_long_so start p e) = (too_long_from start, p, ap (λ (r : Checked). r.refusal) e)
 
 decided_refuses : {by : List Entry} {s : Bytes} {r : Decision} → DecidesBy by s r → (a : PaperAnswer) × Answers s a × Refuses by s a r.refusal
-decided_refuses {by} (ends start end p l w e) = (ends_at start end, p, (l, w, ap (λ (r : Decision). r.refusal) e ∙ ruled_refusal 0 (rows_for by (said_in by (read_layout l)).kind (child_of (read_layout l))) (places_in start l) (child_of (read_layout l))))
+decided_refuses {by} (ends start end p l w e) = (ends_at start end, p, (l, w, ap (λ (r : Decision). r.refusal) e ∙ decision_refuses (said_in by (read_layout l)).kind (first_refused 0 (rows_for by (said_in by (read_layout l)).kind (child_of (read_layout l))) (places_in start l) (child_of (read_layout l))) ∙ ruled_refusal 0 (rows_for by (said_in by (read_layout l)).kind (child_of (read_layout l))) (places_in start l) (child_of (read_layout l))))
 decided_refuses (more start p e) = (more_from start, p, ap (λ (r : Decision). r.refusal) e)
 decided_refuses (malformed start place p e) = (malformed_at start place, p, ap (λ (r : Decision). r.refusal) e)
 decided_refuses (too_long start p e) = (too_long_from start, p, ap (λ (r : Decision). r.refusal) e)
@@ -110,19 +119,26 @@ record FirstFrom (i : ℕ) (l : List Row) (place : Bytes → Words) (t : Tree) (
   refused : refusal_in (tried row t) ≡ x.refusal
   value : x.value ≡ value_in row.form (place row.name)
 
-first_from : (i : ℕ) (l : List Row) (place : Bytes → Words) (t : Tree) → (refusal_of l t ≡ 0 → ⊥) → FirstFrom i l place t (first_refused i l place t)
+-- what rules, and that it is that row
+abbrev pub IsFirst : List Row → (Bytes → Words) → Tree → Option Ruling → Type 0
+IsFirst l place t r = (x : Ruling) × (r ≡ Some x) × First l place t x
+
+abbrev IsFirstFrom : ℕ → List Row → (Bytes → Words) → Tree → Option Ruling → Type 0
+IsFirstFrom i l place t r = (x : Ruling) × (r ≡ Some x) × FirstFrom i l place t x
+
+first_from : (i : ℕ) (l : List Row) (place : Bytes → Words) (t : Tree) → (refusal_of l t ≡ 0 → ⊥) → IsFirstFrom i l place t (first_refused i l place t)
 unfolding first_refused refusal_of
 first_from i [] place t h = absurd (h refl)
 first_from i (r ∷ l) place t h = go (refusal_in (tried r t)) refl (first_from (suc i) l place t) h
   where
-    go : (n : ℕ) → refusal_in (tried r t) ≡ n → ((refusal_of l t ≡ 0 → ⊥) → FirstFrom (suc i) l place t (first_refused (suc i) l place t)) → (first n (refusal_of l t) ≡ 0 → ⊥)
-        → FirstFrom i (r ∷ l) place t (ruled_by n i (value_in r.form (place r.name)) (first_refused (suc i) l place t))
-    go zero e on h = let x = on h in record { before = r ∷ x.before; row = x.row; behind = x.behind; rows = ap (λ (l : List Row). r ∷ l) x.rows; number = let y = x.number in omega arith; passed = ap (λ (n : ℕ). first n (refusal_of x.before t)) e ∙ x.passed; refused = x.refused; value = x.value }
-    go (suc n) e on h = record { before = []; row = r; behind = l; rows = refl; number = omega arith; passed = refl; refused = e; value = refl }
+    go : (n : ℕ) → refusal_in (tried r t) ≡ n → ((refusal_of l t ≡ 0 → ⊥) → IsFirstFrom (suc i) l place t (first_refused (suc i) l place t)) → (first n (refusal_of l t) ≡ 0 → ⊥)
+        → IsFirstFrom i (r ∷ l) place t (ruled_by n i (value_in r.form (place r.name)) (first_refused (suc i) l place t))
+    go zero e on h = let (y, q, x) = on h in (y, q, record { before = r ∷ x.before; row = x.row; behind = x.behind; rows = ap (λ (l : List Row). r ∷ l) x.rows; number = let y = x.number in omega arith; passed = ap (λ (n : ℕ). first n (refusal_of x.before t)) e ∙ x.passed; refused = x.refused; value = x.value })
+    go (suc n) e on h = (record { refusal = suc n; row = i; value = value_in r.form (place r.name) }, refl, record { before = []; row = r; behind = l; rows = refl; number = omega arith; passed = refl; refused = e; value = refl })
 
 -- where rows refuse, the row that rules is the first that does
-pub first_decides : (l : List Row) (place : Bytes → Words) (t : Tree) → (refusal_of l t ≡ 0 → ⊥) → First l place t (first_refused 0 l place t)
-first_decides l place t h = let x = first_from 0 l place t h in record { before = x.before; row = x.row; behind = x.behind; rows = x.rows; number = let y = x.number in omega arith; passed = x.passed; refused = x.refused; value = x.value }
+pub first_decides : (l : List Row) (place : Bytes → Words) (t : Tree) → (refusal_of l t ≡ 0 → ⊥) → IsFirst l place t (first_refused 0 l place t)
+first_decides l place t h = let (y, q, x) = first_from 0 l place t h in (y, q, record { before = x.before; row = x.row; behind = x.behind; rows = x.rows; number = let y = x.number in omega arith; passed = x.passed; refused = x.refused; value = x.value })
 
 -- the message that ends in s ends in s with bytes behind it, and has the same bytes
 ends_more : {s : Bytes} {start end : ℕ} (t : Bytes) → Ends s start end → Ends (s ++ t) start end

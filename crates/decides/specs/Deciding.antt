@@ -1,5 +1,5 @@
 -- What decides over a message. "Attributes are tried in table order, each for 4, 5, 6; the first decides"
-use Rattle.std.specs.Prelude.{◌≡◌, List, [], ◌∷◌, ℕ, zero, suc, ◌-◌, take, drop}
+use Rattle.std.specs.Prelude.{◌≡◌, List, [], ◌∷◌, ℕ, zero, suc, ◌-◌, take, drop, Option, None, Some}
 use Rattle.grammar.specs.Bytes.{Bytes}
 use Rattle.grammar.specs.Tree.{Tree}
 use Rattle.grammar.specs.Message.{Layout, Laid, read_layout}
@@ -22,23 +22,20 @@ value_in version w = w
 value_in positive w = w
 value_in features w = Absent
 
--- no row decides
-abbrev pub unruled : Ruling
-unruled = record { refusal = 0; row = 0; value = Absent }
-
 -- the row of number i, refused by n or not; those behind it rule as x
-abbrev pub ruled_by : ℕ → ℕ → Words → Ruling → Ruling
+abbrev pub ruled_by : ℕ → ℕ → Words → Option Ruling → Option Ruling
 ruled_by zero i w x = x
-ruled_by (suc n) i w x = record { refusal = suc n; row = i; value = w }
+ruled_by (suc n) i w x = Some (record { refusal = suc n; row = i; value = w })
 
 -- the first row that is refused, by its number; the first of the rows has the number i
-unfoldable pub first_refused : ℕ → List Row → (Bytes → Words) → Tree → Ruling
-first_refused i [] place t = unruled
+unfoldable pub first_refused : ℕ → List Row → (Bytes → Words) → Tree → Option Ruling
+first_refused i [] place t = None
 first_refused i (r ∷ l) place t = ruled_by (refusal_in (tried r t)) i (value_in r.form (place r.name)) (first_refused (suc i) l place t)
 
 -- of an element of kind k, by what rules
-abbrev pub decided_by : ℕ → Ruling → Decision
-decided_by k x = record { refusal = x.refusal; kind = k; row = x.row; value = x.value }
+abbrev pub decided_by : ℕ → Option Ruling → Decision
+decided_by k None = record { refusal = 0; kind = k; row = 0; value = Absent }
+decided_by k (Some x) = record { refusal = x.refusal; kind = k; row = x.row; value = x.value }
 
 -- an answer without a message: 1, 2 or 3
 abbrev pub undecided : ℕ → Decision

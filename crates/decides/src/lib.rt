@@ -4,20 +4,20 @@
 ghost use Rattle.std.specs.Prelude.{◌≡◌};
 ghost use Rattle.refusals.specs.Numbers.{number_of};
 ghost use Rattle.rows.specs.Coding.{numbers as coding, names as letters, Sound};
-ghost use Rattle.reads.specs.Held.{Held};
-ghost use Rattle.decides.specs.Deciding.{unruled, undecided, decided_by, Decides};
-ghost use Rattle.decides.specs.Ruled.{Stands, Rules};
+ghost use Rattle.decides.specs.Deciding.{undecided, decided_by, Decides};
+ghost use Rattle.decides.specs.Ruled.{StandsIn, RulesIn};
 
 use reader::answer::Answer;
+use reads::attributes::Attributes;
 use reads::features::{Sort, sort_of};
-use reads::find::find;
 use reads::trying::try_row;
 use refusals::Refusal;
 use rows::data::{NAMES, NUMBERS, Row, name_at, row_at, rows_of};
 use tags::attributes::PLACES;
 use value::Words;
 
-/// A row that decided: its refusal, its number among the rows of its kind, and the raw value of its attribute. Zeros if none did.
+/// A row that decided: its refusal, its number among the rows of its kind, and the raw value of its attribute.
+// The refusal is document 01's number: `first_refused` has it, and `Decision` tells it.
 #[derive(Clone, Copy)]
 pub struct Ruling {
     pub refusal: u8,
@@ -27,23 +27,13 @@ pub struct Ruling {
 
 /// What decided over a message: the refusal and the kind that checking says; of 4, 5 and 6 the row, counted from 0 in table order, and where its
 /// raw value stands, if the attribute is there. With every other answer no row did: row 0, and no value.
+// It stays one record of numbers: `Decides` has row 0 and no value where no row decided, and `why` prints them so.
 #[derive(Clone, Copy)]
 pub struct Decision {
     pub refusal: u8,
     pub kind: u8,
     pub row: usize,
     pub value: Words,
-}
-
-// No row decided.
-fn none() -> Ruling
-    ensures { result ≡ unruled }
-{
-    Ruling {
-        refusal: 0,
-        row: 0,
-        value: Words::Absent,
-    }
 }
 
 // No message was read.
@@ -58,63 +48,63 @@ fn unread(refusal: Refusal) -> Decision
     }
 }
 
-fn made(kind: u8, x: Ruling) -> Decision
-    ensures { result ≡ decided_by kind x }
+// What decided over a message of that kind.
+fn made(kind: u8, ruling: Option<Ruling>) -> Decision
+    ensures { result ≡ decided_by kind ruling }
 {
-    let value = x.value;
-    Decision {
-        refusal: x.refusal,
-        kind: kind,
-        row: x.row,
-        value: value,
+    match ruling {
+        Some(
+            Ruling {
+                refusal,
+                row,
+                value,
+            },
+        ) => Decision {
+            refusal,
+            kind,
+            row,
+            value,
+        },
+        None => Decision {
+            refusal: 0,
+            kind,
+            row: 0,
+            value: Words::Absent,
+        },
     }
 }
 
 // Where the raw value of a row's attribute stands; a child has none.
-fn value_of(s: &[u8], base: usize, table: &[u16], count: usize, names: &[u8], row: Row) -> Words
-    requires { Held s.now base table.now count × (names.now ≡ letters) × Sound row }
-    ensures { Stands s.now base table.now count row result }
+fn value_of(attributes: &Attributes<'_>, names: &[u8], row: Row) -> Words
+    requires { (names.now ≡ letters) × Sound row }
+    ensures { StandsIn attributes.now row result }
 {
-    let form = row.form;
-    if form == 0 {
+    if row.form == 0 {
         return Words::Absent;
     }
     let name = name_at(names, row.line as usize, row.len as usize);
-    find(s, base, table, count, 0, name)
+    attributes.find(0, name)
 }
 
 // Tries the rows of the kind in order, up to the first that is refused.
-fn rule(
-    s: &[u8],
-    base: usize,
-    table: &[u16],
-    count: usize,
-    sort: Sort,
-    numbers: &[u64],
-    names: &[u8],
-) -> Ruling
-    requires { Held s.now base table.now count × (numbers.now ≡ coding) × (names.now ≡ letters) }
-    ensures { Rules s.now base table.now count sort result }
+fn rule(attributes: &Attributes<'_>, sort: Sort, numbers: &[u64], names: &[u8]) -> Option<Ruling>
+    requires { (numbers.now ≡ coding) × (names.now ≡ letters) }
+    ensures { RulesIn attributes.now sort result }
 {
     let range = rows_of(sort.kind);
-    let features = sort.features;
-    let from = range.from;
-    let n = range.count;
-    let mut i = 0;
-    while i < n {
-        let row = row_at(numbers, from + i);
-        let tried = try_row(s, base, table, count, i, features, names, row);
+    for i in 0..range.count {
+        let row = row_at(numbers, range.from + i);
+        let tried = try_row(attributes, i, sort.features, names, row);
         if let Err(refusal) = tried.answer {
-            let value = value_of(s, base, table, count, names, row);
-            return Ruling {
+            let value = value_of(attributes, names, row);
+            return Some(Ruling {
                 refusal: refusal.number(),
                 row: i,
-                value: value,
-            };
+                value,
+            });
         }
-        i += 1;
     }
-    none()
+    None
 }
 
 /// What decided over the message behind the glue in front of s.
@@ -126,13 +116,16 @@ pub fn decided(s: &[u8]) -> Decision
     let a = o.answer;
     match a {
         Answer::Ends { start, end } => {
-            let to = o.to;
-            let k = sort_of(s, o.from, to, o.inside);
-            let kind = k.kind;
+            let sort = sort_of(s, o.from, o.to, o.inside);
+            let attributes = Attributes {
+                message: s,
+                base: o.to,
+                table: &table,
+                count: o.count,
+            };
             let numbers = NUMBERS;
             let names = NAMES;
-            let x = rule(s, to, &table, o.count, k, &numbers, &names);
-            made(kind, x)
+            made(sort.kind, rule(&attributes, sort, &numbers, &names))
         }
         Answer::More { start } => unread(Refusal::Incomplete),
         Answer::Malformed { start, place } => unread(Refusal::Malformed),

@@ -5,6 +5,8 @@ use mathlib.Core.Bool.{Bool}
 use Prim.Native.Nat.{ℕ, ◌+◌, ◌-◌, ◌≤◌}
 use native.Mathlib.Omega.{arith}
 use lib.ListN.{length, take, drop}
+use Rattle.std.proofs.Math.Logic.{∥∥₁_elim}
+use Rattle.std.proofs.Math.Bridge.{le_prop}
 use Rattle.grammar.specs.Bytes.{Bytes}
 use Rattle.grammar.specs.Value.{Item, read_value}
 use Rattle.grammar.specs.Tree.{Pair}
@@ -32,6 +34,9 @@ stands_so r = record { items = r.text.items; loose = record { good = loosen r.te
 module _ {s : Bytes} {base : ℕ} {table : List ℕ} {count : ℕ} {name : Bytes} {w : Words} (found : Found s base table count name w) where
   pub there : (h : Held s base table count) (p : Span) → w ≡ Present p → Stands s name (pairs h) p
   there h p e = stands_so (reads_at s base h.attributes h.after h.good h.stand name p (sym (found.says h) ∙ e))
+
+  pub found_inside : ∥ Held s base table count ∥₁ → (p : Span) → w ≡ Present p → p.start + p.len ≤ length s
+  found_inside t p e = ∥∥₁_elim t le_prop (λ h. (there h p e).inside)
 
   pub tries_absent : {A : Type 0} (f : Words → Result → A) (t : Form) (o : Bool) {r : A} → w ≡ Absent → r ≡ f w (without o) → Tries f t o s base table count name r
   tries_absent f t o e k =

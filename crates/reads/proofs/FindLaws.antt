@@ -7,6 +7,8 @@ use native.Mathlib.Omega.{arith}
 use native.Mathlib.Nat.{add-zero}
 use lib.ListN.{length, take, drop, get_or}
 use Rattle.exact.specs.Chain.{clash}
+use Rattle.std.proofs.Math.Logic.{∥∥₁_elim}
+use Rattle.std.proofs.Math.Bridge.{le_prop}
 use Rattle.grammar.specs.Bytes.{Bytes, same, among}
 use Rattle.grammar.specs.Value.{spell_value}
 use Rattle.grammar.specs.Attribute.{Attribute, spell_attributes, GoodEach, good_each, fresh}
@@ -200,6 +202,16 @@ module _ (s : Bytes) (base : ℕ) (table : List ℕ) where
 
 pub placed_at : {s : Bytes} {base : ℕ} {table : List ℕ} {count i : ℕ} → Held s base table count → i < count → PlacedAt s base table i
 placed_at {s} {base} {table} {count} {i} h lt = let z : 0 + i ≡ i = omega arith in subst (PlacedAt s base table) z (placed_from s base table i 0 0 h.attributes h.after h.rest h.good (ap (λ (n : ℕ). drop n s) (add-zero base) ∙ h.stand) h.rows (let c = h.counts in omega arith))
+
+-- so where the attributes are only known to stand there
+pub stands_at : {s : Bytes} {base : ℕ} {table : List ℕ} {count i : ℕ} → ∥ Held s base table count ∥₁ → i < count → PlacedAt s base table i
+stands_at t lt = record {
+  long = ∥∥₁_elim t le_prop (λ h. (placed_at h lt).long);
+  name_order = ∥∥₁_elim t le_prop (λ h. (placed_at h lt).name_order);
+  name_in_lem = ∥∥₁_elim t le_prop (λ h. (placed_at h lt).name_in_lem);
+  value_order = ∥∥₁_elim t le_prop (λ h. (placed_at h lt).value_order);
+  value_in_holds = ∥∥₁_elim t le_prop (λ h. (placed_at h lt).value_in_holds);
+}
 
 none_of : (a b : Bool) → a || b ≡ false → (a ≡ false) × (b ≡ false)
 none_of true b e = clash e

@@ -2,7 +2,7 @@
 use mathlib.Core.Path.{◌≡◌, refl, sym, ap, subst, ◌∙◌}
 use mathlib.Core.List.{List}
 use mathlib.Core.Bool.{Bool, true, false, cond}
-use Prim.Native.Nat.{ℕ, ◌+◌, ◌-◌}
+use Prim.Native.Nat.{ℕ, ◌+◌, ◌-◌, ◌≤◌}
 use native.Mathlib.Omega.{arith}
 use lib.ListN.{length, take, drop, length-drop}
 use lib.Dec.{eqb}
@@ -25,10 +25,10 @@ use Rattle.rows.specs.declared.data.Row.{Row as Coded}
 use Rattle.message.specs.Fields.{Field, a_words}
 use Rattle.message.specs.Cells.{words_cell, cell_of}
 use Rattle.message.specs.Handed.{attributes_of}
-use Rattle.reads.specs.Held.{Held, pairs, place, Found, Tries}
+use Rattle.reads.specs.Held.{pairs, place, Found, Tries}
 use Rattle.reads.specs.Kept.{Verdict, as_cell, cell_as, lacking, int_of, size_of, features_of, kept_of, tried_as, Judges, RowJudges, Rowed, carried_by}
 use Rattle.reads.specs.declared.tried.Cell.{Cell}
-use Rattle.reads.proofs.FieldLaws.{there, tries_absent, tries_present}
+use Rattle.reads.proofs.FieldLaws.{tries_absent, tries_present}
 
 -- the arms of `judged`
 abbrev at : ℕ → Bytes → Words
@@ -143,13 +143,12 @@ module _ {s : Bytes} {base : ℕ} {table : List ℕ} {count : ℕ} (carried : Op
   pub absent_rowed : {r : Verdict} {n : Bytes} {w : Words} → n ≡ name_at c.line c.len → Found s base table count n w → w ≡ Absent → r ≡ lacking (eqb c.need 1) → Rowed s base table count carried c r
   absent_rowed y found e q = rowed (tries_absent (named y found) (tried_as (form_of c)) (form_of c) (eqb c.need 1) e (q ∙ sym (absent_row (form_of c) (eqb c.need 1) (is_plain c other)) ∙ ap (λ (w : Words). tried_as (form_of c) w (without (eqb c.need 1))) (sym e)))
 
-  pub present_rowed : {r : Verdict} {n : Bytes} {w : Words} → n ≡ name_at c.line c.len → Found s base table count n w → Held s base table count → (p : Span) → w ≡ Present p
+  pub present_rowed : {r : Verdict} {n : Bytes} {w : Words} → n ≡ name_at c.line c.len → Found s base table count n w → (p : Span) → p.start + p.len ≤ length s → w ≡ Present p
       → RowJudges c.form c.low c.high (take (p.start + p.len - p.start) (drop p.start s)) p.start r → Rowed s base table count carried c r
-  present_rowed y found held p e j = rowed (tries_present (named y found) (tried_as (form_of c)) (form_of c) (eqb c.need 1) p e (λ l x. j.says l x ∙ sym (ap (λ (t : Form). tried_as t (at p.start (take (p.start + p.len - p.start) (drop p.start s))) (judged t (read_value l))) (is_attribute c other)) ∙ ap (λ (n : ℕ). tried_as (form_of c) (Present (record { start = p.start; len = n })) (judged (form_of c) (read_value l))) long))
+  present_rowed y found p z e j = rowed (tries_present (named y found) (tried_as (form_of c)) (form_of c) (eqb c.need 1) p e (λ l x. j.says l x ∙ sym (ap (λ (t : Form). tried_as t (at p.start (take (p.start + p.len - p.start) (drop p.start s))) (judged t (read_value l))) (is_attribute c other)) ∙ ap (λ (n : ℕ). tried_as (form_of c) (Present (record { start = p.start; len = n })) (judged (form_of c) (read_value l))) long))
     where
       long : length (take (p.start + p.len - p.start) (drop p.start s)) ≡ p.len
       long =
-          let z = (there found held p e).inside in
           let d = length-drop p.start s in
           length-take-le (p.start + p.len - p.start) (drop p.start s) (omega arith) ∙ (let y : p.start + p.len - p.start ≡ p.len = omega arith in y)
 

@@ -2,5 +2,6 @@
 pub mod Held
 pub mod Children
 pub mod Kept
+pub mod Attributes
 pub mod Whole
 pub mod Ids

@@ -2,9 +2,9 @@
 // refused is handed out as its kind, its cells and its BoardId.
 #![tactic(auto)]
 
+pub mod attributes;
 mod checking;
 pub mod features;
-pub mod find;
 mod ids;
 mod judge;
 mod kind_rows;

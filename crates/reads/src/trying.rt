@@ -1,10 +1,10 @@
 // A row tried on the attributes and the children of an element.
 ghost use Rattle.std.specs.Prelude.{◌≡◌};
 ghost use Rattle.rows.specs.Coding.{names as letters, Sound};
-ghost use Rattle.reads.specs.Held.{Held};
-ghost use Rattle.reads.specs.Kept.{verdict_of, Rowed};
+ghost use Rattle.reads.specs.Attributes.{RowedIn};
+ghost use Rattle.reads.specs.Kept.{verdict_of};
 
-use crate::find::find;
+use crate::attributes::Attributes;
 use crate::judge::judged;
 use crate::tried::{Tried, carried, missing};
 use rows::data::{Row, name_at};
@@ -12,28 +12,22 @@ use value::Words;
 
 /// A row tried: its attribute, for which the attribute `guess` is looked at first; or its child, which was looked for before.
 pub fn try_row(
-    s: &[u8],
-    base: usize,
-    table: &[u16],
-    count: usize,
+    attributes: &Attributes<'_>,
     guess: usize,
     features: Option<u64>,
     names: &[u8],
     row: Row,
 ) -> Tried
-    requires { Held s.now base table.now count × (names.now ≡ letters) × Sound row }
-    ensures { Rowed s.now base table.now count features row (verdict_of result) }
+    requires { (names.now ≡ letters) × Sound row }
+    ensures { RowedIn attributes.now features row (verdict_of result) }
 {
-    let form = row.form;
-    if form == 0 {
+    if row.form == 0 {
         return Tried::from(carried(features, row.need));
     }
     let name = name_at(names, row.line as usize, row.len as usize);
-    let w = find(s, base, table, count, guess, name);
-    let Words::Present(p) = w else {
+    let Words::Present(place) = attributes.find(guess, name) else {
         return Tried::from(missing(row.need));
     };
-    let start = p.start;
-    let len = p.len;
-    judged(&s[start..start + len], start, row)
+    let raw = &attributes.message[place.start..place.start + place.len];
+    judged(raw, place.start, row)
 }

@@ -5,6 +5,7 @@ ghost use Rattle.refusals.specs.Numbers.{told};
 ghost use Rattle.reads.specs.Kept.{Sorts};
 ghost use Rattle.reads.specs.Whole.{outcome_of, Sketched, CellsChecked};
 
+use crate::attributes::Attributes;
 use crate::features::{Sort, sort_of};
 use crate::kind_rows::check_rows;
 use reader::answer::{Answer, Outline};
@@ -42,12 +43,16 @@ pub fn tell(s: &[u8], o: Outline, sort: Sort, table: &[u16], cells: &mut [u64]) 
     let a = o.answer;
     match a {
         Answer::Ends { start, end } => {
-            let to = o.to;
-            let kind = sort.kind;
+            let attributes = Attributes {
+                message: s,
+                base: o.to,
+                table,
+                count: o.count,
+            };
             let numbers = NUMBERS;
             let names = NAMES;
-            let answer = check_rows(s, to, table, o.count, sort, &numbers, &names, cells);
-            made(answer, kind, start, end, 0)
+            let answer = check_rows(&attributes, sort, &numbers, &names, cells);
+            made(answer, sort.kind, start, end, 0)
         }
         Answer::More { start } => made(Err(Refusal::Incomplete), 0, start, 0, 0),
         Answer::Malformed { start, place } => made(Err(Refusal::Malformed), 0, start, 0, place),

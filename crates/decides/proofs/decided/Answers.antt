@@ -1,24 +1,24 @@
 -- Each answer by the outline.
-use mathlib.Core.Path.{refl, sym}
+use mathlib.Core.Path.{refl}
 use Rattle.table.specs.Table.{table}
 use Rattle.rows.specs.Coding.{numbers, names}
-use Rattle.reads.proofs.OutlineLaws.{accepted, accepted_held, accepted_long, outlined_order, outlined_in}
+use Rattle.reads.proofs.OutlineLaws.{accepted, accepted_held, outlined_order, outlined_in}
 use Rattle.decides.proofs.DecideLaws.{decides_end, decides_more, decides_malformed, decides_too_long}
 use Rattle.decides.proofs.decided.Goals as goal
 
 -- Each answer by the outline.
-pub sort_of-k-requires : goal.sort_of-k-requires
-sort_of-k-requires c = (outlined_order c.outline-o.ensures, outlined_in c.outline-o.ensures)
+pub sort_of-sort-requires : goal.sort_of-sort-requires
+sort_of-sort-requires c = (outlined_order c.outline-o.ensures, outlined_in c.outline-o.ensures)
 
-pub slice_bounds-rule-end : goal.slice_bounds-rule-end
-slice_bounds-rule-end c = sym (accepted_long (accepted c.outline-o.ensures c.in-Ends.is) refl)
+pub invariant_of-attributes : goal.invariant_of-attributes
+invariant_of-attributes c = record { held = ∣ accepted_held (accepted c.outline-o.ensures c.in-Ends.is) refl ∣₁ }
 
-pub rule-x-requires : goal.rule-x-requires
+pub rule-requires : goal.rule-requires
 unfolding numbers names table
-rule-x-requires c = (accepted_held (accepted c.outline-o.ensures c.in-Ends.is) refl, refl, refl)
+rule-requires c = (refl, refl)
 
 pub returns-in-Ends : goal.returns-in-Ends
-returns-in-Ends c = decides_end c.outline-o.ensures c.in-Ends.start c.in-Ends.end refl c.in-Ends.is c.sort_of-k.ensures c.rule-x.ensures c.made.ensures
+returns-in-Ends c = decides_end c.outline-o.ensures c.in-Ends.start c.in-Ends.end refl c.in-Ends.is c.sort_of-sort.ensures c.rule.ensures c.made.ensures
 
 pub returns-in-More : goal.returns-in-More
 returns-in-More c = decides_more c.outline-o.ensures c.in-More.start c.in-More.is c.unread.ensures

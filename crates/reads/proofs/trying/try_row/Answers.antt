@@ -1,22 +1,21 @@
 -- By the form, and by whether the attribute is there.
 use mathlib.Core.Path.{◌∙◌}
 use native.Mathlib.Omega.{arith}
-use Rattle.reads.proofs.FieldLaws.{there}
+use Rattle.reads.proofs.FieldLaws.{found_inside}
 use Rattle.reads.proofs.RowLaws.{child_rowed, absent_rowed, present_rowed}
 use Rattle.reads.proofs.trying.try_row.Goals as goal
 
--- By the form, and by whether the attribute is there.
-pub returns-then-form-eq0 : goal.returns-then-form-eq0
-returns-then-form-eq0 c = child_rowed c.args.features c.args.row c.if-form-eq0.true (c.from.ensures ∙ c.carried.ensures)
+pub returns-then-row-eq0 : goal.returns-then-row-eq0
+returns-then-row-eq0 c = child_rowed c.args.features c.args.row c.if-row-eq0.true (c.from.ensures ∙ c.carried.ensures)
 
 pub returns-in_default : goal.returns-in_default
-returns-in_default c = absent_rowed c.args.features c.args.row c.if-form-eq0.false c.name_at-name.ensures c.find-w.ensures c.in_default.is (c.from-in_default.ensures ∙ c.missing.ensures)
+returns-in_default c = absent_rowed c.args.features c.args.row c.if-row-eq0.false c.name_at-name.ensures c.find.ensures c.in_default.is (c.from-in_default.ensures ∙ c.missing.ensures)
 
-pub overflow_add-start : goal.overflow_add-start
-overflow_add-start c = let z = (there c.find-w.ensures c.requires.0 c.in-Present.p c.in-Present.is).inside in omega arith
+pub overflow_add-raw : goal.overflow_add-raw
+overflow_add-raw c = let z = found_inside c.find.ensures c.args.attributes.now.held c.in-Present.place c.in-Present.is in omega arith
 
-pub slice_bounds-judged-end : goal.slice_bounds-judged-end
-slice_bounds-judged-end c = let z = (there c.find-w.ensures c.requires.0 c.in-Present.p c.in-Present.is).inside in omega arith
+pub slice_bounds-raw-end : goal.slice_bounds-raw-end
+slice_bounds-raw-end c = let z = found_inside c.find.ensures c.args.attributes.now.held c.in-Present.place c.in-Present.is in omega arith
 
 pub returns : goal.returns
-returns c = present_rowed c.args.features c.args.row c.if-form-eq0.false c.name_at-name.ensures c.find-w.ensures c.requires.0 c.in-Present.p c.in-Present.is c.judged.ensures
+returns c = present_rowed c.args.features c.args.row c.if-row-eq0.false c.name_at-name.ensures c.find.ensures c.in-Present.place (found_inside c.find.ensures c.args.attributes.now.held c.in-Present.place c.in-Present.is) c.in-Present.is c.judged.ensures

@@ -7,9 +7,12 @@ use Rattle.reads.proofs.WholeLaws.{cells_end, cells_more, cells_malformed, cells
 use Rattle.reads.proofs.whole.tell.Goals as goal
 
 -- Each answer by the outline.
+pub invariant_of-attributes : goal.invariant_of-attributes
+invariant_of-attributes c = record { held = ∣ accepted_held (accepted c.requires.1.outlined c.in-Ends.is) c.requires.1.whole ∣₁ }
+
 pub check_rows-answer-requires : goal.check_rows-answer-requires
 unfolding numbers names table
-check_rows-answer-requires c = (accepted_held (accepted c.requires.1.outlined c.in-Ends.is) c.requires.1.whole, refl, refl, c.requires.0)
+check_rows-answer-requires c = (refl, refl, c.requires.0)
 
 pub returns-in-Ends : goal.returns-in-Ends
 returns-in-Ends c = cells_end c.requires.1.outlined c.in-Ends.start c.in-Ends.end c.requires.1.whole c.in-Ends.is c.requires.2 c.check_rows-answer.ensures c.made.ensures

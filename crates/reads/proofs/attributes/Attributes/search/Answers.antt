@@ -1,18 +1,12 @@
 -- The invariant: the rows from here on hold the attributes that are left, and the place is theirs.
 use Rattle.reads.proofs.FindLaws.{left_all, search_hit, search_miss, none_left}
-use Rattle.reads.proofs.find.search.Goals as goal
+use Rattle.reads.proofs.attributes.Attributes.search.Goals as goal
 
 pub loop-i-init : goal.loop-i-init
 loop-i-init c = λ h. left_all h _
 
-pub is_named-requires : goal.is_named-requires
-is_named-requires c = (c.requires, c.loop-i-test.true)
-
-pub value_at-requires : goal.value_at-requires
-value_at-requires c = (c.requires, c.loop-i-test.true)
-
 pub returns-then-is_named : goal.returns-then-is_named
-returns-then-is_named c = record { says = λ h. search_hit (c.loop-i.invariant h) c.loop-i-test.true c.is_named.ensures c.if-is_named.true c.value_at.ensures }
+returns-then-is_named c = record { says = λ h. search_hit (c.loop-i.invariant h) c.loop-i-test.true c.is_named.ensures c.if-is_named.true c.value.ensures }
 
 pub loop-i-preserved : goal.loop-i-preserved
 loop-i-preserved c = λ h. search_miss (c.loop-i.invariant h) c.loop-i-test.true c.is_named.ensures c.if-is_named.false
