@@ -7,7 +7,8 @@ use native.Mathlib.Omega.{arith}
 use lib.ListN.{length, length-append, length-drop, take, drop}
 use lib.Seq.{length-take-le}
 use borrow.Author.Tests.{leb-true}
-use Rattle.std.specs.Prelude.{Option, None, Some}
+use Rattle.std.specs.Prelude.{Option, None, Some, is_some}
+use mir.Val.{bool_byte}
 use Rattle.exact.specs.Chain.{clash}
 use Rattle.grammar.specs.Bytes.{Bytes, text, same}
 use Rattle.grammar.specs.Limits.{DEPTH}
@@ -26,9 +27,8 @@ use Rattle.lane.specs.Names.{ServiceDescription}
 use Rattle.table.specs.Table.{table, kind_of}
 use Rattle.rows.specs.Coding.{LINES, WIDTH, names, name_at}
 use Rattle.rows.proofs.CodingLaws.{length_names}
-use Rattle.reads.specs.Children.{Holds, holds_none, holds, unnamed_child, First, no_child_case, first_child, FirstIn}
-use Rattle.reads.specs.Kept.{Verdict, as_cell, lacking, features_of, NotesIn, SUPPORTED, carried_by, Carried, Supports, Sorts}
-use Rattle.reads.specs.declared.features.Named.{Named}
+use Rattle.reads.specs.Children.{Holds, holds_none, holds, First, no_child_case, first_child, FirstIn}
+use Rattle.reads.specs.Kept.{as_cell, lacking, features_of, NotesIn, SUPPORTED, Carried, Supports, Sorts}
 
 -- a found child stands inside the bytes, and the search goes on behind it
 pub record Ahead (s : Bytes) (at : ℕ) (r : Child) : Type 0 where
@@ -73,7 +73,7 @@ pub record Searched (s : Bytes) (inside : ℕ) (name : Bytes) (at : ℕ) : Type 
   pub left : (f : Forest) → Holds s inside f → LeftOver s name f at
 
 -- an empty tag has no children
-pub none_inside : (s : Bytes) (inside : ℕ) (name : Bytes) {r : Named} → inside ≡ 0 → r ≡ unnamed_child → FirstIn s inside name r
+pub none_inside : (s : Bytes) (inside : ℕ) (name : Bytes) {r : Option ℕ} → inside ≡ 0 → r ≡ None → FirstIn s inside name r
 none_inside s inside name {r} z e = record { says = go }
   where
     go : (f : Forest) → Holds s inside f → First s name f r
@@ -104,7 +104,7 @@ children_stand s (full t c g) {from} {to} {inside} rest (good_full a b h) e p = 
 
 module _ {s : Bytes} {inside : ℕ} {name : Bytes} {at : ℕ} {r : Child} (so_far : Searched s inside name at) (p : NextChild s at r) where
   -- the content has ended
-  pub search_ends : {u : Named} → r.found ≡ false → u ≡ unnamed_child → FirstIn s inside name u
+  pub search_ends : {u : Option ℕ} → r.found ≡ false → u ≡ None → FirstIn s inside name u
   search_ends {u} q e = record { says = λ f h. go f (so_far.left f h) }
     where
       at_end : (f : Forest) (c : Content) (end : Bytes) → has_child name f ≡ has_child name (read_content c) → ((o : Bool) → featured name o f ≡ featured name o (read_content c)) → InContent s at c end r → First s name f u
@@ -138,23 +138,24 @@ module _ {s : Bytes} {inside : ℕ} {name : Bytes} {at : ℕ} {r : Child} (so_fa
     same_as x a m = ap (same name) (named_so x ∙ sym a.name) ∙ sym m
 
     -- it has the name
-    pub search_finds : true ≡ same name (take (r.to - r.from) (drop r.from s)) → FirstIn s inside name (record { found = true; inside = r.inside })
+    pub search_finds : true ≡ same name (take (r.to - r.from) (drop r.from s)) → FirstIn s inside name (Some r.inside)
     search_finds m = record { says = λ f h. go f (so_far.left f h) }
       where
-        at-child : (f : Forest) (c : Content) (end : Bytes) → GoodContent (DEPTH - 2) c → drop at s ≡ spell_content c ++ end → has_child name f ≡ has_child name (read_content c) → ((o : Bool) → featured name o f ≡ featured name o (read_content c)) → InContent s at c end r → First s name f (record { found = true; inside = r.inside })
+        at-child : (f : Forest) (c : Content) (end : Bytes) → GoodContent (DEPTH - 2) c → drop at s ≡ spell_content c ++ end → has_child name f ≡ has_child name (read_content c) → ((o : Bool) → featured name o f ≡ featured name o (read_content c)) → InContent s at c end r → First s name f (Some r.inside)
         at-child f (bare y) end k e a b i = absurd (not_bare i)
         at-child f (child y x c) end k e a b i =
             let n = here y x c end k e in
             let w = parts y x n in
             let j = same_as x w m in
             first_child
+            r.inside
             refl
             (a ∙ ap (λ (z : Bool). z || has_child name (read_content c)) j)
             (read_element x)
             (λ o. b o ∙ ap (λ (z : Bool). cond z (present (notes (children_of (read_element x)))) (featured name o (read_content c))) j)
             (children_stand s x n.rest n.element i.lines.behind w)
 
-        go : (f : Forest) → LeftOver s name f at → First s name f (record { found = true; inside = r.inside })
+        go : (f : Forest) → LeftOver s name f at → First s name f (Some r.inside)
         go f l = at-child f l.content (spell_end l.end l.glue ++ l.rest) l.good l.stands l.has l.features (in_content l.end l.glue l.rest l.content l.good l.stands p)
 
     -- it has another name
@@ -183,16 +184,20 @@ module _ {s : Bytes} {inside : ℕ} {name : Bytes} {at : ℕ} {r : Child} (so_fa
         go f l = behind-child f l.content l.end l.glue l.rest l.good l.stands l.has l.features (in_content l.end l.glue l.rest l.content l.good l.stands p)
 
 -- a search finds what is there
-found_is : {s name : Bytes} {f : Forest} {r : Named} → First s name f r → r.found ≡ has_child name f
-found_is (no_child_case e a b) = ap (λ (y : Named). y.found) e ∙ sym a
-found_is (first_child e a t b h) = e ∙ sym a
+found_is : {s name : Bytes} {f : Forest} {r : Option ℕ} → First s name f r → is_some r ≡ has_child name f
+found_is (no_child_case e a b) = ap is_some e ∙ sym a
+found_is (first_child n e a t b h) = ap is_some e ∙ sym a
 
 -- three searches note the features
-bits : (x y z : Bool) → as_cell 0 (1 ∷ (cond x 1 0 + (cond y 2 0 + cond z 4 0)) ∷ 0 ∷ []) ≡ features_of (present (noted x y z))
-bits x true true = refl
-bits x true false = refl
-bits x false true = refl
-bits x false false = refl
+bits : (x y z : Bool) → as_cell 0 (1 ∷ (bool_byte x + 2 * bool_byte y + 4 * bool_byte z) ∷ 0 ∷ []) ≡ features_of (present (noted x y z))
+bits true true true = refl
+bits true true false = refl
+bits true false true = refl
+bits true false false = refl
+bits false true true = refl
+bits false true false = refl
+bits false false true = refl
+bits false false false = refl
 
 -- their names stand first on their lines
 abbrev pub on_line : ℕ → ℕ → Bytes
@@ -213,49 +218,44 @@ length_line n h e =
     let d = length-drop (n * WIDTH) names in
     ap length e ∙ ap (λ (m : ℕ). length (take m (drop (n * WIDTH) names))) z ∙ length-take-le 24 (drop (n * WIDTH) names) (omega (arith, length_names))
 
-finds : {s : Bytes} {inside : ℕ} {n n' m : Bytes} {r : Named} {f : Forest} → FirstIn s inside n r → n ≡ n' → n' ≡ m → Holds s inside f → r.found ≡ has_child m f
+finds : {s : Bytes} {inside : ℕ} {n n' m : Bytes} {r : Option ℕ} {f : Forest} → FirstIn s inside n r → n ≡ n' → n' ≡ m → Holds s inside f → is_some r ≡ has_child m f
 finds {s} {inside} {r = r} {f = f} p e q h = found_is ((subst (λ (n : Bytes). FirstIn s inside n r) (e ∙ q) p).says f h)
 
-pub all_noted : {s : Bytes} {inside : ℕ} {x y z : Named} {l m n : Bytes} {a b d r : ℕ} → l ≡ on_line 0 20 → FirstIn s inside l x → m ≡ on_line 1 21 → FirstIn s inside m y → n ≡ on_line 2 20 → FirstIn s inside n z → a ≡ cond x.found 1 0 → b ≡ cond y.found 2 0 → d ≡ cond z.found 4 0 → r ≡ a + (b + d) → NotesIn s inside r
-all_noted {s} {inside} {x} {y} {z} {r = r} i p j q k t e f g u = record { says = go }
+pub all_noted : {s : Bytes} {inside : ℕ} {x y z : Option ℕ} {l m n : Bytes} {a b d : Bool} → l ≡ on_line 0 20 → FirstIn s inside l x → m ≡ on_line 1 21 → FirstIn s inside m y → n ≡ on_line 2 20 → FirstIn s inside n z
+    → a ≡ is_some x → b ≡ is_some y → d ≡ is_some z → NotesIn s inside (bool_byte a + 2 * bool_byte b + 4 * bool_byte d)
+all_noted {s} {inside} {x} {y} {z} {a = a} {b = b} {d = d} i p j q k t e f g = record { says = go }
   where
-    cell : ℕ → Verdict
-    cell n = as_cell 0 (1 ∷ n ∷ 0 ∷ [])
-
-    is : cell r ≡ cell (cond x.found 1 0 + (cond y.found 2 0 + cond z.found 4 0))
-    is = ap cell u ∙ rw (e, f, g)
-
-    go : (o : Forest) → Holds s inside o → cell r ≡ features_of (present (notes o))
+    go : (o : Forest) → Holds s inside o → as_cell 0 (1 ∷ (bool_byte a + 2 * bool_byte b + 4 * bool_byte d) ∷ 0 ∷ []) ≡ features_of (present (notes o))
     go o h =
         let m = has_child (text "FeatureBoardForecast") o in
         let n = has_child (text "FeatureQueryBoardInfo") o in
-        is ∙ bits x.found y.found z.found
-        ∙ ap (λ (b : Bool). features_of (present (noted b y.found z.found))) (finds p i on_lines_lem.0 h)
-        ∙ ap (λ (b : Bool). features_of (present (noted m b z.found))) (finds q j on_lines_lem.1 h)
-        ∙ ap (λ (b : Bool). features_of (present (noted m n b))) (finds t k on_lines_lem.2 h)
+        bits a b d
+        ∙ ap (λ (c : Bool). features_of (present (noted c b d))) (e ∙ finds p i on_lines_lem.0 h)
+        ∙ ap (λ (c : Bool). features_of (present (noted m c d))) (f ∙ finds q j on_lines_lem.1 h)
+        ∙ ap (λ (c : Bool). features_of (present (noted m n c))) (g ∙ finds t k on_lines_lem.2 h)
 
 lacks : (o : Bool) → lacking o ≡ features_of (without o)
 lacks true = refl
 lacks false = refl
 
 -- the first child SupportedFeatures
-module _ {s : Bytes} {inside : ℕ} {name : Bytes} {c : Named} (e : name ≡ on_line 6 17) (first : FirstIn s inside name c) where
+module _ {s : Bytes} {inside : ℕ} {name : Bytes} {c : Option ℕ} (e : name ≡ on_line 6 17) (first : FirstIn s inside name c) where
   search_says : (f : Forest) → Holds s inside f → First s SUPPORTED f c
   search_says f h = subst (λ (n : Bytes). First s n f c) (e ∙ on_lines_lem.3) (first.says f h)
 
-  pub supports_some : {n : ℕ} {r : Option ℕ} → c.found ≡ true → NotesIn s c.inside n → r ≡ Some n → Supports s inside r
-  supports_some {n} {r} q m k = record { says = λ f h. go f (search_says f h) }
+  pub supports_some : {at n : ℕ} → c ≡ Some at → NotesIn s at n → Supports s inside (Some n)
+  supports_some {at} {n} q m = record { says = λ f h. go f (search_says f h) }
     where
-      go : (f : Forest) → First s SUPPORTED f c → Carried SUPPORTED r f
-      go f (no_child_case d a b) = clash (sym q ∙ ap (λ (y : Named). y.found) d)
-      go f (first_child d a t b h) = λ o. ap (λ (r : Option ℕ). carried_by r o) k ∙ m.says (children_of t) h ∙ ap features_of (sym (b o))
+      go : (f : Forest) → First s SUPPORTED f c → Carried SUPPORTED (Some n) f
+      go f (no_child_case d a b) = absurd (let z : Some at ≡ None = sym q ∙ d in cc)
+      go f (first_child i d a t b h) = λ o. (subst (λ (i : ℕ). NotesIn s i n) (let z : Some at ≡ Some i = sym q ∙ d in cc) m).says (children_of t) h ∙ ap features_of (sym (b o))
 
-  pub supports_none : {r : Option ℕ} → c.found ≡ false → r ≡ None → Supports s inside r
-  supports_none {r} q k = record { says = λ f h. go f (search_says f h) }
+  pub supports_none : c ≡ None → Supports s inside None
+  supports_none q = record { says = λ f h. go f (search_says f h) }
     where
-      go : (f : Forest) → First s SUPPORTED f c → Carried SUPPORTED r f
-      go f (no_child_case d a b) = λ o. ap (λ (r : Option ℕ). carried_by r o) k ∙ lacks o ∙ ap features_of (sym (b o))
-      go f (first_child d a t b h) = clash (sym d ∙ q)
+      go : (f : Forest) → First s SUPPORTED f c → Carried SUPPORTED None f
+      go f (no_child_case d a b) = λ o. lacks o ∙ ap features_of (sym (b o))
+      go f (first_child i d a t b h) = absurd (let z : Some i ≡ None = sym d ∙ q in cc)
 
 -- the kind of an element, and its features
 module _ {s : Bytes} {from to inside k : ℕ} {t : Option ℕ} (e : k ≡ kind_of (take (to - from) (drop from s))) where

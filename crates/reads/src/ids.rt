@@ -5,19 +5,10 @@ ghost use Rattle.message.specs.Cells.{NUMBERS};
 ghost use Rattle.message.specs.Messages.{id_cell};
 ghost use Rattle.reads.specs.Ids.{IdOf, IdAt, TakesId};
 
+use crate::copied::copied;
 use crate::kind_rows::put;
 use crate::tried::Cell;
 use rows::data::{NO_ID, id_cell};
-
-// The lesser of both.
-fn least(a: u8, b: u8) -> u8
-    ensures { (result ≤ a) × (result ≤ b) }
-{
-    if a < b {
-        return a;
-    }
-    b
-}
 
 // Whether these are 36 bytes, none below `-`: so each stands as it reads. One least byte is kept, so that no branch is guessed.
 fn is_clear(raw: &[u8]) -> bool
@@ -26,26 +17,11 @@ fn is_clear(raw: &[u8]) -> bool
     if raw.len() != 36 {
         return false;
     }
-    let mut low = b'-';
-    let mut k = 0;
-    while k < 36 {
-        low = least(low, raw[k]);
-        k += 1;
+    let mut least = b'-';
+    for byte in raw {
+        least = least.min(*byte);
     }
-    low == b'-'
-}
-
-fn copied(raw: &[u8]) -> [u8; 36]
-    requires { length raw.now ≡ 36 }
-    ensures { result ≡ raw.now }
-{
-    let mut bytes = [0u8; 36];
-    let mut k = 0;
-    while k < 36 {
-        bytes[k] = raw[k];
-        k += 1;
-    }
-    bytes
+    least == b'-'
 }
 
 // The id that a raw value reads as, which was judged to be one.

@@ -4,6 +4,7 @@
 
 pub mod attributes;
 mod checking;
+mod copied;
 pub mod features;
 mod ids;
 mod judge;

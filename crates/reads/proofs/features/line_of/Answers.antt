@@ -11,8 +11,8 @@ pub name_at-requires : goal.name_at-requires
 unfolding names table
 name_at-requires c = (refl, c.requires, omega arith)
 
-pub padded-requires : goal.padded-requires
-padded-requires c = length_line c.args.line c.requires c.name_at.ensures
+pub copied-requires : goal.copied-requires
+copied-requires c = (omega arith, length_line c.args.line c.requires c.name_at.ensures)
 
 pub returns : goal.returns
-returns c = c.padded.ensures ∙ c.name_at.ensures
+returns c = c.copied.ensures ∙ c.name_at.ensures

@@ -1,10 +1,11 @@
 -- What stands as it reads is copied.
+use native.Mathlib.Omega.{arith}
 use Rattle.reads.proofs.IdLaws.{clear_id, read_id}
 use Rattle.reads.proofs.ids.id_of.Goals as goal
 
 -- What stands as it reads is copied.
 pub copied-requires : goal.copied-requires
-copied-requires c = (c.is_clear.ensures c.if-is_clear.true).0
+copied-requires c = (omega arith, (c.is_clear.ensures c.if-is_clear.true).0)
 
 pub returns-then-is_clear : goal.returns-then-is_clear
 returns-then-is_clear c = clear_id (c.is_clear.ensures c.if-is_clear.true).1 c.copied.ensures
