@@ -1,4 +1,5 @@
 -- What `tryphomel_receive` answers, and that no second answer satisfies its promise.
+use Rattle.std.specs.Prelude.{Option, Some, None}
 use mathlib.Core.Path.{◌≡◌, refl, sym, ap, subst, ◌∙◌}
 use mathlib.Core.List.{List}
 use mathlib.Core.Bool.{Bool, true, false, cond}
@@ -12,8 +13,6 @@ use Rattle.lane.specs.Record.{ended, answer, step_in, received}
 use Rattle.lane.specs.declared.Event.{Event}
 use Rattle.lane.specs.declared.Lane.{Lane}
 use Rattle.lane.specs.declared.Moved.{Moved}
-use Rattle.lane.specs.declared.chart.Step.{Step}
-use Rattle.lane.specs.declared.chart.Step.TheVariants.{To, NoTransition}
 use Rattle.message.specs.declared.checking.Checked.{Checked}
 use Rattle.meant.specs.Events.{event_of}
 use Rattle.promises.specs.Receiving.{moved_by, told, answer_of, Receives, received_by, ReceivesInto}
@@ -33,9 +32,9 @@ received_side : (l : Lane) (e : Event) → (received l e).lane.side ≡ l.side
 unfolding received
 received_side l e = go (step_in l e)
   where
-    go : (s : Step) → (answer IsReceived s l e (ended l ProtocolError)).lane.side ≡ l.side
-    go (To n) = refl
-    go NoTransition = refl
+    go : (s : Option ℕ) → (answer IsReceived s l e (ended l ProtocolError)).lane.side ≡ l.side
+    go (Some n) = refl
+    go None = refl
 
 moved_side : (l : Lane) (n : ℕ) (e : Event) → (moved_by l n e).lane.side ≡ l.side
 unfolding moved_by

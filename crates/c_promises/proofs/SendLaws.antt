@@ -1,4 +1,5 @@
 -- What `tryphomel_send` answers, and that no second answer satisfies its promise.
+use Rattle.std.specs.Prelude.{Option, Some, None}
 use mathlib.Core.Path.{◌≡◌, refl, sym, ap, subst, ◌∙◌}
 use mathlib.Core.List.{List}
 use Prim.Native.Nat.{ℕ}
@@ -10,8 +11,6 @@ use Rattle.lane.specs.Chart.{Sent as IsSent}
 use Rattle.lane.specs.Record.{kept, answer, step_out, sent}
 use Rattle.lane.specs.declared.Event.{Event}
 use Rattle.lane.specs.declared.Lane.{Lane}
-use Rattle.lane.specs.declared.chart.Step.{Step}
-use Rattle.lane.specs.declared.chart.Step.TheVariants.{To, NoTransition}
 use Rattle.message.specs.Messages.{at_most, message_by}
 use Rattle.message.specs.declared.cells.Message.{Message}
 use Rattle.meant.specs.Meant.{refusal_of}
@@ -30,9 +29,9 @@ sent_side : (l : Lane) (e : Event) → (sent l e).lane.side ≡ l.side
 unfolding sent
 sent_side l e = go (step_out l e)
   where
-    go : (s : Step) → (answer IsSent s l e (kept l MayNotBeSent)).lane.side ≡ l.side
-    go (To n) = refl
-    go NoTransition = refl
+    go : (s : Option ℕ) → (answer IsSent s l e (kept l MayNotBeSent)).lane.side ≡ l.side
+    go (Some n) = refl
+    go None = refl
 
 answer_side : (l : Lane) (m : Message) (texts : Bytes) (room : ℕ) → (answer_of l m texts room).lane.side ≡ l.side
 unfolding answer_of

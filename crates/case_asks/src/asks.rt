@@ -147,13 +147,12 @@ fn moves(rt: &impl Print, s: &[u8], v: &[u8]) {
         return;
     }
     let id = id(byte(s, at + 1));
-    let forecast = forecast(v);
-    let event = Event {
-        kind,
-        id,
-        carries: 0 < v.len(),
-        forecast,
+    let forecast = if v.is_empty() {
+        None
+    } else {
+        Some(forecast(v))
     };
+    let event = Event { kind, id, forecast };
     moved(rt, b"received ", lane, moves::received(lane, event));
     moved(rt, b"; sent ", lane, moves::sent(lane, event));
     put(rt, b"\n");

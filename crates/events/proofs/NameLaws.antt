@@ -1,16 +1,17 @@
 -- The value ForecastId of a message of cells, by its kind; and its bytes as a lane keeps them.
+use Rattle.std.specs.Prelude.{Option, Some, None}
+use Rattle.lane.specs.Ids.{zeros}
 use mathlib.Core.Path.{◌≡◌, refl, sym, ap, subst, ◌∙◌}
-use mathlib.Core.List.{List, [], ◌∷◌, ◌++◌}
+use mathlib.Core.List.{List, ◌++◌}
 use mathlib.Core.Bool.{Bool, true, false, ◌&&◌, cond}
-use Prim.Native.Nat.{ℕ, zero, suc, ◌+◌, ◌-◌, ◌≤◌, ◌<◌}
+use Prim.Native.Nat.{ℕ, suc, ◌+◌, ◌-◌, ◌≤◌, ◌<◌}
 use native.Mathlib.Omega.{arith}
-use lib.ListN.{length, length-replicate, length-drop, take, drop, get_or, set, replicate}
-use lib.Seq.{take_all, length-take-le}
+use lib.ListN.{length, length-drop, take, drop}
+use lib.Seq.{length-take-le}
 use lib.Dec.{leb}
 use borrow.Author.Tests.{ne_eqb, leb-true, leb-false, le-leb, lt-leb}
 use Rattle.grammar.specs.Bytes.{Bytes, text}
 use Rattle.lane.specs.Record.{no_forecast}
-use Rattle.lane.specs.declared.Event.{Event}
 use Rattle.lane.specs.declared.ids.Forecast.{Forecast}
 use denote.Ref.{Bor}
 use Rattle.value.specs.Asking.{paper, TextSays}
@@ -27,8 +28,8 @@ use Rattle.message.specs.Messages.{message_by, fields_of, called_in}
 use Rattle.meant.specs.Meant.{text_at}
 use Rattle.rows.specs.Coding.{KINDS, rows_from}
 use Rattle.rows.proofs.CodingLaws.{listed, listed_same, above}
-use Rattle.meant.specs.Events.{Carried, no_forecast_case, a_forecast, forecast_of, forecast_id, carries_none, carries_one, carried_in, Sound, event_with}
-use Rattle.events.specs.Says.{forecast_cell, Got, Given, Kept, Reads, Names}
+use Rattle.meant.specs.Events.{Carried, no_forecast_case, a_forecast, forecast_of, forecast_told, forecast_id, carries_none, carries_one, carried_in, Sound}
+use Rattle.events.specs.Says.{forecast_cell, Got, Forecasts, Given, Kept, Reads, Names}
 
 -- where the cell stands
 pub cell_else : (k : ℕ) → (k ≡ 5 → ⊥) → (k ≡ 11 → ⊥) → NUMBERS ≡ forecast_cell k
@@ -66,33 +67,9 @@ pub names_one : (k : ℕ) (cells : List ℕ) {at t a b : ℕ} {w : Words} → at
 names_one k cells {at} {t} {a} {b} e h p q r f =
     record { says = λ id. f ∙ rw (p, q, r) (sym (named_placed cells id k ∙ ap (λ (n : ℕ). words_at n cells) (sym e) ∙ rw (lt-leb NUMBERS at h) refl)) }
 
--- bytes taken over one by one
-abbrev zeros : List ℕ
-zeros = replicate 80 0
-
-pub record Copied (v bytes : Bytes) (i : ℕ) : Type 0 where
-  pub are : bytes ≡ take i v ++ drop i zeros
-  pub upto : i ≤ length v
-
-pub copied_none : (v : Bytes) → Copied v zeros 0
-copied_none v = record { are = refl; upto = omega arith }
-
-copied_set : (v l : List ℕ) (i : ℕ) → i < length v → i < length l → set (take i v ++ drop i l) i (get_or v i 0) ≡ take (suc i) v ++ drop (suc i) l
-copied_set [] l i h k = absurd (omega arith)
-copied_set (x ∷ v) [] i h k = absurd (omega arith)
-copied_set (x ∷ v) (y ∷ l) zero h k = refl
-copied_set (x ∷ v) (y ∷ l) (suc i) h k = ap (λ (z : List ℕ). x ∷ z) (copied_set v l i (omega arith) (omega arith))
-
-pub copied_more : {v bytes : Bytes} {i : ℕ} → Copied v bytes i → i < length v → length v ≤ 80 → Copied v (set bytes i (get_or v i 0)) (i + 1)
-copied_more {v} {bytes} {i} c h k =
-    let n : suc i ≡ i + 1 = omega arith in
-    record { are = ap (λ (b : List ℕ). set b i (get_or v i 0)) c.are ∙ copied_set v zeros i h (let z = length-replicate {A = ℕ} 80 0 in omega arith) ∙ ap (λ (j : ℕ). take j v ++ drop j zeros) n; upto = omega arith }
-
-pub copied_all : {v bytes : Bytes} {i : ℕ} → Copied v bytes i → length v ≤ i → length v ≤ 80 → Kept v (record { length = length v; bytes = bytes })
-copied_all {v} {bytes} {i} c h l =
-    let u = c.upto in
-    let e : i ≡ length v = omega arith in
-    record { says = λ k. ap (λ (b : List ℕ). record { length = length v; bytes = b }) (c.are ∙ ap (λ (j : ℕ). take j v ++ drop j zeros) e ∙ ap (λ (b : List ℕ). b ++ drop (length v) zeros) (take_all (length v) v (omega arith))); too_long = λ k. absurd (omega arith) }
+-- bytes put down over zeros
+pub kept_all : (v : Bytes) {b : Bytes} → b ≡ v → length v ≤ 80 → Kept v (record { length = length v; bytes = b ++ drop (length v) zeros })
+kept_all v e h = record { says = λ k. ap (λ (b : List ℕ). record { length = length v; bytes = b ++ drop (length v) zeros }) e; too_long = λ k. absurd (omega arith) }
 
 -- the bytes that stand at a place
 pub reads_at : {s : Bytes} (p : Span) {room scratch : Bytes} (at : TextAt) (a b : ℕ × ℕ) {part : Bor (List ℕ)} {r : Forecast} → length room ≡ 80 → TextSays s (IsWords p) room scratch (paper at) → Lies (part_at a s b scratch at) part → Kept part.now r → Reads s p r
@@ -103,35 +80,40 @@ kept_none v h e = record { says = λ k. absurd (omega arith); too_long = λ k. e
 
 -- the event of a message
 module _ {k : ℕ} {cells : List ℕ} {id : Bytes} {w : Words} (n : Names k cells w) where
-  pub got_none : {s : Bytes} {f : Forecast} → w ≡ NoWords → f ≡ no_forecast → Got s k cells id (record { kind = k; id = id; carries = false; forecast = f })
-  got_none e z = record { forecast = no_forecast_case; carries = λ i. carries_none (sym (n.says i) ∙ e) refl; is = ap (λ (f : Forecast). record { kind = k; id = id; carries = false; forecast = f }) z }
+  pub got_none : {s : Bytes} → w ≡ NoWords → Got s k cells id (record { kind = k; id = id; forecast = None })
+  got_none e = record { forecast = no_forecast_case; carries = λ i. carries_none (sym (n.says i) ∙ e) refl; is = refl }
 
-  pub got_one : {s : Bytes} (p : Span) {f : Forecast} → w ≡ IsWords p → Reads s p f → ((i : Bytes) → Sound s (forecast_id (message_by k cells i))) → Got s k cells id (record { kind = k; id = id; carries = true; forecast = f })
+  pub got_one : {s : Bytes} (p : Span) {f : Forecast} → w ≡ IsWords p → Reads s p f → ((i : Bytes) → Sound s (forecast_id (message_by k cells i))) → Got s k cells id (record { kind = k; id = id; forecast = Some f })
   got_one {s} p {f} e r h =
       let (v, t, l, z) = h id p (sym (n.says id) ∙ e) in
-      record { forecast = a_forecast v; carries = λ i. carries_one p (sym (n.says i) ∙ e) v t refl; is = ap (λ (f : Forecast). record { kind = k; id = id; carries = true; forecast = f }) (r.says v t l z) }
+      record { forecast = a_forecast v; carries = λ i. carries_one p (sym (n.says i) ∙ e) v t refl; is = ap (λ (f : Forecast). record { kind = k; id = id; forecast = Some f }) (r.says v t l z) }
 
-  pub given_none : {texts : Bytes} {r : Event} → w ≡ NoWords → r ≡ event_with k id no_forecast_case → Given texts k cells id r
-  given_none {texts} e q = record { is = λ i. q ∙ ap (λ (w : Words). event_with k id (carried_in texts w)) (sym e ∙ n.says i) }
+-- the forecast of one to be sent
+module _ {k : ℕ} {cells : List ℕ} {w : Words} (n : Names k cells w) where
+  pub sends_none : {texts : Bytes} → w ≡ NoWords → Forecasts texts k cells None
+  sends_none {texts} e = record { says = λ i. ap (λ (w : Words). forecast_told (carried_in texts w)) (sym e ∙ n.says i) }
 
   module _ {texts : Bytes} (p : Span) (e : w ≡ IsWords p) where
-    told : {r : Event} (f : Carried) → r ≡ event_with k id f → f ≡ carried_in texts (IsWords p) → Given texts k cells id r
-    told f q h = record { is = λ i. q ∙ ap (event_with k id) h ∙ ap (λ (w : Words). event_with k id (carried_in texts w)) (sym e ∙ n.says i) }
+    told : {r : Option Forecast} (f : Carried) → r ≡ forecast_told f → f ≡ carried_in texts (IsWords p) → Forecasts texts k cells r
+    told f q h = record { says = λ i. q ∙ ap forecast_told h ∙ ap (λ (w : Words). forecast_told (carried_in texts w)) (sym e ∙ n.says i) }
 
-    pub given_long : {r : Event} → 80 < p.len → r ≡ event_with k id no_forecast_case → Given texts k cells id r
-    given_long h q = told no_forecast_case q (rw (lt-leb p.len 80 h) refl)
+    pub sends_long : 80 < p.len → Forecasts texts k cells None
+    sends_long h = told no_forecast_case refl (rw (lt-leb p.len 80 h) refl)
 
-    pub given_outside : {r : Event} → length texts < p.start + p.len → r ≡ event_with k id no_forecast_case → Given texts k cells id r
-    given_outside h q = told no_forecast_case q (go (leb p.len 80))
+    pub sends_outside : length texts < p.start + p.len → Forecasts texts k cells None
+    sends_outside h = told no_forecast_case refl (go (leb p.len 80))
       where
         go : (b : Bool) → no_forecast_case ≡ cond (b && leb (p.start + p.len) (length texts)) (a_forecast (text_at texts p)) no_forecast_case
         go true = rw (lt-leb (p.start + p.len) (length texts) h) refl
         go false = refl
 
-    pub given_one : {f : Forecast} → p.len ≤ 80 → p.start + p.len ≤ length texts → Kept (take (p.start + p.len - p.start) (drop p.start texts)) f → Given texts k cells id (record { kind = k; id = id; carries = true; forecast = f })
-    given_one {f} a b x =
+    pub sends_one : {f : Forecast} → p.len ≤ 80 → p.start + p.len ≤ length texts → Kept (take (p.start + p.len - p.start) (drop p.start texts)) f → Forecasts texts k cells (Some f)
+    sends_one {f} a b x =
         let n : p.start + p.len - p.start ≡ p.len = omega arith in
         let m = length-drop p.start texts in
         let z = length-take-le p.len (drop p.start texts) (omega arith) in
         let y : f ≡ forecast_of (a_forecast (text_at texts p)) = (subst (λ (n : ℕ). Kept (take n (drop p.start texts)) f) n x).says (omega arith) in
-        told (a_forecast (text_at texts p)) (ap (λ (f : Forecast). record { kind = k; id = id; carries = true; forecast = f }) y) (rw (le-leb p.len 80 a, le-leb (p.start + p.len) (length texts) b) refl)
+        told (a_forecast (text_at texts p)) (ap Some y) (rw (le-leb p.len 80 a, le-leb (p.start + p.len) (length texts) b) refl)
+
+pub given : {texts : Bytes} {k : ℕ} {cells : List ℕ} {id : Bytes} {f : Option Forecast} → Forecasts texts k cells f → Given texts k cells id (record { kind = k; id = id; forecast = f })
+given {k = k} {id = id} f = record { is = λ i. ap (λ (f : Option Forecast). record { kind = k; id = id; forecast = f }) (f.says i) }

@@ -1,5 +1,5 @@
 -- What the functions of the crate promise.
-use Rattle.std.specs.Prelude.{◌≡◌, List, cond, ℕ, ◌+◌, ◌≤◌, ◌<◌, length, take, drop, eqb}
+use Rattle.std.specs.Prelude.{◌≡◌, List, Option, cond, ℕ, ◌+◌, ◌≤◌, ◌<◌, length, take, drop, eqb}
 use Rattle.lane.specs.Names.{MachineReady, BoardForecast}
 use Rattle.lane.specs.declared.Event.{Event}
 use Rattle.lane.specs.declared.ids.Forecast.{Forecast}
@@ -9,7 +9,7 @@ use Rattle.value.specs.declared.text.Span.{Span}
 use Rattle.value.specs.declared.text.Words.{Words}
 use Rattle.message.specs.Cells.{NUMBERS}
 use Rattle.message.specs.Messages.{message_by}
-use Rattle.meant.specs.Events.{Carried, no_forecast_case, a_forecast, forecast_of, event_with, forecast_id, Carries, carried_in}
+use Rattle.meant.specs.Events.{Carried, no_forecast_case, a_forecast, forecast_of, forecast_told, event_with, forecast_id, Carries, carried_in}
 
 -- where the cell of a ForecastId stands: in a MachineReady the second, in a BoardForecast the first; behind all cells if the kind has none
 abbrev pub forecast_cell : ℕ → ℕ
@@ -34,6 +34,10 @@ pub record Got (s : Bytes) (k : ℕ) (cells : List ℕ) (id : Bytes) (r : Event)
   pub carries : (i : Bytes) → Carries s (forecast_id (message_by k cells i)) forecast
   pub is : r ≡ event_with k id forecast
 
--- of one to be sent with these texts
+-- the ForecastId of one to be sent with these texts
+pub record Forecasts (texts : Bytes) (k : ℕ) (cells : List ℕ) (r : Option Forecast) : Type 0 where
+  pub says : (i : Bytes) → r ≡ forecast_told (carried_in texts (forecast_id (message_by k cells i)))
+
+-- and its event
 pub record Given (texts : Bytes) (k : ℕ) (cells : List ℕ) (id : Bytes) (r : Event) : Type 0 where
   pub is : (i : Bytes) → r ≡ event_with k id (carried_in texts (forecast_id (message_by k cells i)))

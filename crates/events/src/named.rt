@@ -40,11 +40,7 @@ pub fn kept(v: &[u8]) -> Forecast
         return Forecast::none();
     }
     let mut bytes = [0u8; 80];
-    let mut i = 0;
-    while i < n {
-        bytes[i] = v[i];
-        i += 1;
-    }
+    bytes[..n].copy_from_slice(v);
     Forecast {
         length: n as u8,
         bytes,

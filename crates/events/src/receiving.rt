@@ -22,19 +22,16 @@ pub fn received_event(s: &[u8], kind: u8, cells: &[u64], id: [u8; 36]) -> Event
     requires { (i : Bytes) → Sound s.now (forecast_id (message_by kind cells.now i)) }
     ensures { Got s.now kind cells.now id result }
 {
-    let w = forecast_words(kind, cells);
-    match w {
+    match forecast_words(kind, cells) {
         Words::Absent => Event {
             kind,
             id,
-            carries: false,
-            forecast: Forecast::none(),
+            forecast: None,
         },
         Words::Present(p) => Event {
             kind,
             id,
-            carries: true,
-            forecast: read_at(s, p),
+            forecast: Some(read_at(s, p)),
         },
     }
 }

@@ -1,46 +1,30 @@
 // The event of a message that is to be sent.
-ghost use Rattle.std.specs.Prelude.{◌≡◌};
-ghost use Rattle.meant.specs.Events.{no_forecast_case, event_with};
-ghost use Rattle.events.specs.Says.{Given};
+ghost use Rattle.events.specs.Says.{Forecasts, Given};
 
 use crate::named::{LONGEST, forecast_words, kept};
 use lane::{Event, Forecast};
 use value::Words;
 
-fn without(kind: u8, id: [u8; 36]) -> Event
-    ensures { result ≡ event_with kind id no_forecast_case }
+// The ForecastId of a message whose texts are parts of `texts`. One that is too long or runs outside is none: it is refused before.
+fn sent_forecast(kind: u8, cells: &[u64], texts: &[u8]) -> Option<Forecast>
+    ensures { Forecasts texts.now kind cells.now result }
 {
-    Event {
-        kind,
-        id,
-        carries: false,
-        forecast: Forecast::none(),
+    let Words::Present(p) = forecast_words(kind, cells) else {
+        return None;
+    };
+    if LONGEST < p.len || texts.len() < p.start || texts.len() - p.start < p.len {
+        return None;
     }
+    Some(kept(&texts[p.start..p.start + p.len]))
 }
 
-/// What the chart looks at in a message whose texts are parts of `texts`. A ForecastId that is too long or runs outside is none: it is refused before.
+/// What the chart looks at in a message whose texts are parts of `texts`.
 pub fn sent_event(kind: u8, cells: &[u64], id: [u8; 36], texts: &[u8]) -> Event
     ensures { Given texts.now kind cells.now id result }
 {
-    let w = forecast_words(kind, cells);
-    let Words::Present(p) = w else {
-        return without(kind, id);
-    };
-    let start = p.start;
-    let len = p.len;
-    if LONGEST < len {
-        return without(kind, id);
-    }
-    if texts.len() < start {
-        return without(kind, id);
-    }
-    if texts.len() - start < len {
-        return without(kind, id);
-    }
     Event {
         kind,
         id,
-        carries: true,
-        forecast: kept(&texts[start..start + len]),
+        forecast: sent_forecast(kind, cells, texts),
     }
 }

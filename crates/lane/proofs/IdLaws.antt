@@ -4,11 +4,12 @@ use Rattle.std.proofs.Math.Path.{refl}
 use Rattle.std.proofs.Common.{sym, ap, subst, ◌∙◌, arith, eqb→eq, length-append, length-take, length-drop, length-set, ext_get_or, get_or-take, get_or-drop, get_or-append-add, get_or-set_same, get_or-set_other, take-take, length-take-le, eq-eqb, eqb-true, leb-true, leb-false, le-leb}
 use Rattle.std.proofs.Math.Bool.{true, false}
 use Rattle.std.proofs.Math.Dec.{leb}
-use Rattle.std.proofs.lemmas.List.{length-replicate, get_or-replicate}
+use Rattle.std.proofs.lemmas.List.{length-replicate, get_or-replicate, take-replicate, drop-replicate}
+use Rattle.std.proofs.Math.Seq.{take-append-add}
 use Rattle.std.proofs.Math.ListN.{get_or-append, get_or-eq_default}
 use Rattle.std.proofs.lemmas.Bool.{eqb-false, lt-leb}
 use Rattle.lane.specs.Chart.{both}
-use Rattle.lane.specs.Ids.{same_id, no_forecast, padded, righted, same_forecast, id_of}
+use Rattle.lane.specs.Ids.{same_id, no_forecast, zeros, padded, righted, same_forecast, id_of}
 use Rattle.lane.specs.declared.ids.Forecast.{Forecast}
 
 pub both_parts : (a b : Bool) → T (both a b) → T a × T b
@@ -83,31 +84,32 @@ module _ (w : ℕ) where
   long_own : (n : ℕ) (b : List ℕ) → long w n b ≡ long w n (take n b)
   long_own n b = ap (λ (p : List ℕ). take w (p ++ replicate w 0)) (sym (take-take n n b (omega arith)))
 
-  -- one more byte, and what stands behind
-  long_more : (n : ℕ) (b : List ℕ) → n < w → set (long w n b) n (get_or b n 0) ≡ long w (n + 1) b
-  long_more n b h = long_is (n + 1) b (set (long w n b) n (get_or b n 0)) (length-set (long w n b) n (get_or b n 0) ∙ long_length n b) (λ i k l. go i k l (eqb i n) refl) (λ i k l. get_or-set_other (long w n b) n i (get_or b n 0) 0 (λ e. omega arith) ∙ long_out n b i k (omega arith))
-    where
-      go : (i : ℕ) → i < w → i < n + 1 → (z : Bool) → eqb i n ≡ z → get_or (set (long w n b) n (get_or b n 0)) i 0 ≡ get_or b i 0
-      go i k l true e =
-          let q = eqb-true i n e in
-          rw q (get_or-set_same (long w n b) n (get_or b n 0) 0 (omega (arith, long_length n b)))
-      go i k l false e =
-          let q = eqb-false i n e in
-          get_or-set_other (long w n b) n i (get_or b n 0) 0 q ∙ long_in n b i k (omega arith)
+  -- an id put down over zeros
+  long_over : (n : ℕ) (b : List ℕ) → length (take n b) ≡ n → n ≤ w → take n b ++ drop n (replicate w 0) ≡ long w n b
+  long_over n b h k =
+      let e : length (take n b) + (w - n) ≡ w = omega arith in
+      ap (λ (z : List ℕ). take n b ++ z) (drop-replicate n w 0 ∙ sym (take-replicate (w - n) w 0 (omega arith)))
+      ∙ sym (take-append-add (take n b) (replicate w 0) (w - n))
+      ∙ ap (λ (m : ℕ). take m (take n b ++ replicate w 0)) e
 
+  -- and what stands behind
   long_behind : (n : ℕ) (b : List ℕ) → n ≤ w → drop n (long w n b) ≡ replicate (w - n) 0
   long_behind n b h = ext_get_or 0 (drop n (long w n b)) (replicate (w - n) 0) (omega (arith, length-drop n (long w n b), long_length n b, length-replicate {A = ℕ} (w - n) 0)) (λ i k. at i (omega (arith, length-drop n (long w n b), long_length n b)))
     where
       at : (i : ℕ) → i < w - n → get_or (drop n (long w n b)) i 0 ≡ get_or (replicate (w - n) 0) i 0
       at i k = get_or-drop n (long w n b) i 0 ∙ long_out n b (n + i) (omega arith) (omega arith) ∙ sym (get_or-replicate (w - n) i 0 0 k)
 
-pub padded_more : (n : ℕ) (b : List ℕ) → n < 80 → set (padded n b) n (get_or b n 0) ≡ padded (n + 1) b
-padded_more = long_more 80
-
 -- What `righted` is, by the length.
 pub righted_in : (f : Forecast) → f.length ≤ 80 → record { length = f.length; bytes = padded f.length f.bytes } ≡ righted f
 unfolding righted
 righted_in f h = rw (le-leb f.length 80 h)
+
+-- The id's bytes, put down over zeros.
+pub righted_over_zeros : (f : Forecast) {id : List ℕ} → id ≡ take f.length f.bytes → length id ≡ f.length → f.length ≤ 80 → record { length = f.length; bytes = id ++ drop f.length zeros } ≡ righted f
+righted_over_zeros f {id} e h k =
+    ap (λ (b : List ℕ). record { length = f.length; bytes = b })
+    (ap (λ (x : List ℕ). x ++ drop f.length zeros) e ∙ long_over 80 f.length f.bytes (ap length (sym e) ∙ h) k)
+    ∙ righted_in f k
 
 module _ (f : Forecast) where
   pub righted_none : f.length ≡ 0 → no_forecast ≡ righted f

@@ -1,6 +1,6 @@
 -- T2.L3: an id not in use is zero bytes in every record that comes with an accepted message or as NotConnected; its forecast has "zeros behind".
 -- T2.L4: a message that may not be sent leaves the record as it was, bit for bit.
-use Rattle.std.specs.Prelude.{◌≡◌, refl, Bool, ℕ}
+use Rattle.std.specs.Prelude.{◌≡◌, refl, Bool, ℕ, Option, Some, None}
 use Rattle.std.proofs.Common.{arith}
 use Rattle.lane.specs.Names.{Accepted, MayNotBeSent, ProtocolError}
 use Rattle.lane.specs.Chart.{Received, Sent}
@@ -11,8 +11,6 @@ use Rattle.lane.proofs.Laws.{none_right, forecast_right}
 use Rattle.lane.specs.declared.Event.{Event}
 use Rattle.lane.specs.declared.Lane.{Lane}
 use Rattle.lane.specs.declared.ids.Forecast.{Forecast}
-use Rattle.lane.specs.declared.chart.Step.{Step}
-use Rattle.lane.specs.declared.chart.Step.TheVariants.{To, NoTransition}
 use Rattle.lane.specs.IdsZero.{IdsZero, ZerosBehind}
 
 pub zeros_behind : (f : Forecast) → righted f ≡ f → ZerosBehind f
@@ -34,22 +32,22 @@ pub received_ids_zero : (l : Lane) (e : Event) → IdsZero (received l e).lane
 unfolding received
 received_ids_zero l e = go (step_in l e)
   where
-    go : (st : Step) → IdsZero (answer Received st l e (ended l ProtocolError)).lane
-    go (To n) = accepted_ids_zero Received n l e
-    go NoTransition = lost_ids_zero l
+    go : (st : Option ℕ) → IdsZero (answer Received st l e (ended l ProtocolError)).lane
+    go (Some n) = accepted_ids_zero Received n l e
+    go None = lost_ids_zero l
 
 pub sent_ids_zero : (l : Lane) (e : Event) → (sent l e).refusal ≡ Accepted → IdsZero (sent l e).lane
 unfolding sent
 sent_ids_zero l e = go (step_out l e)
   where
-    go : (st : Step) → (answer Sent st l e (kept l MayNotBeSent)).refusal ≡ Accepted → IdsZero (answer Sent st l e (kept l MayNotBeSent)).lane
-    go (To n) a = accepted_ids_zero Sent n l e
-    go NoTransition a = absurd (omega arith)
+    go : (st : Option ℕ) → (answer Sent st l e (kept l MayNotBeSent)).refusal ≡ Accepted → IdsZero (answer Sent st l e (kept l MayNotBeSent)).lane
+    go (Some n) a = accepted_ids_zero Sent n l e
+    go None a = absurd (omega arith)
 
 pub sent_kept : (l : Lane) (e : Event) → ((sent l e).refusal ≡ Accepted → ⊥) → sent l e ≡ kept l MayNotBeSent
 unfolding sent
 sent_kept l e = go (step_out l e)
   where
-    go : (st : Step) → ((answer Sent st l e (kept l MayNotBeSent)).refusal ≡ Accepted → ⊥) → answer Sent st l e (kept l MayNotBeSent) ≡ kept l MayNotBeSent
-    go (To n) a = absurd (a refl)
-    go NoTransition a = refl
+    go : (st : Option ℕ) → ((answer Sent st l e (kept l MayNotBeSent)).refusal ≡ Accepted → ⊥) → answer Sent st l e (kept l MayNotBeSent) ≡ kept l MayNotBeSent
+    go (Some n) a = absurd (a refl)
+    go None a = refl

@@ -2,21 +2,19 @@
 use Rattle.std.proofs.Math.Path.{◌≡◌, refl}
 use Rattle.std.proofs.Common.{sym, ap, subst, ◌∙◌, inl, inr, arith, eqb→eq, eqb-true}
 use mathlib.Core.List.{List, [], ◌∷◌}
-use Rattle.std.specs.Prelude.{Bool, ◌⊎◌, ℕ, eqb}
+use Rattle.std.specs.Prelude.{Bool, ◌⊎◌, ℕ, eqb, Option, Some, None}
 use Rattle.std.proofs.Math.Bool.{true, false}
 use Rattle.std.proofs.Math.Dec.{T}
 use Rattle.lane.specs.Chart.{pick, both, either, among, is_free, may_pass, may_name, Received, Sent, Row, chart, by_rows, is_for, next}
 use Rattle.lane.specs.Names.{U, D, MachineReady, BoardForecast, Accepted, MayNotBeSent, ProtocolError}
-use Rattle.lane.specs.Record.{other, forecast_used, forecast_held, forecast_after, forecast_in, answer, ended, kept, step_in, step_out, received, sent}
-use Rattle.lane.specs.Ids.{no_forecast, righted, same_forecast}
+use Rattle.lane.specs.Record.{other, forecast_used, forecast_held, replaced, cleared, forecast_after, forecast_in, answer, ended, kept, step_in, step_out, received, sent}
+use Rattle.lane.specs.Ids.{no_forecast, righted}
 use Rattle.lane.proofs.IdLaws.{righted_none, righted_again}
 pub use Rattle.lane.proofs.IdLaws.{both_parts, same_refl, same_true, same_false}
 use Rattle.lane.specs.declared.Event.{Event}
 use Rattle.lane.specs.declared.Lane.{Lane}
 use Rattle.lane.specs.declared.Moved.{Moved}
 use Rattle.lane.specs.declared.ids.Forecast.{Forecast}
-use Rattle.lane.specs.declared.chart.Step.{Step}
-use Rattle.lane.specs.declared.chart.Step.TheVariants.{To, NoTransition}
 
 pub clash : {A : Type 0} → true ≡ false → A
 clash e = absurd (let x : ◌≡◌ {A = ℕ} 0 1 = cc in omega arith)
@@ -42,27 +40,27 @@ module _ (P : ℕ → ℕ → ℕ → ℕ → Bool) (s k u n : ℕ) (r : Bool) w
       let c = both_parts (either x.may_be_sent r) (eqb u x.sender) b.1 in
       rw (eqb→eq s x.state a.0, eqb→eq k x.message b.0, eqb→eq u x.sender c.1, ← e) h
 
-  pub by_rows_lem : (xs : List Row) → T (each P xs) → by_rows xs s k u r ≡ To n → T (P s k u n)
+  pub by_rows_lem : (xs : List Row) → T (each P xs) → by_rows xs s k u r ≡ Some n → T (P s k u n)
   unfolding by_rows
   by_rows_lem [] t q = absurd (let z : ◌≡◌ {A = ℕ} 0 1 = cc in omega arith)
   by_rows_lem (x ∷ xs) t q =
       let p = both_parts (P x.state x.message x.sender x.next) (each P xs) t in
       go (is_for x s k u r) refl p.0 (by_rows_lem xs p.1)
     where
-      go : (z : Bool) → is_for x s k u r ≡ z → T (P x.state x.message x.sender x.next) → (by_rows xs s k u r ≡ To n → T (P s k u n)) → T (P s k u n)
-      go true e h rest = at_row x (subst T (sym e) tt) (let w : To x.next ≡ To n = rw e at q in cc) h
+      go : (z : Bool) → is_for x s k u r ≡ z → T (P x.state x.message x.sender x.next) → (by_rows xs s k u r ≡ Some n → T (P s k u n)) → T (P s k u n)
+      go true e h rest = at_row x (subst T (sym e) tt) (let w : Some x.next ≡ Some n = rw e at q in cc) h
       go false e h rest = rest (rw e at q)
 
 -- A step is that of a free kind, which keeps the state, or that of a row, with an id that may pass.
-pub next_cases : (s k u : ℕ) (r same : Bool) (n : ℕ) → next s k u r same ≡ To n → ((is_free k ≡ true) × (n ≡ s)) ⊎ ((by_rows chart s k u r ≡ To n) × (may_name k r same ≡ true))
+pub next_cases : (s k u : ℕ) (r same : Bool) (n : ℕ) → next s k u r same ≡ Some n → ((is_free k ≡ true) × (n ≡ s)) ⊎ ((by_rows chart s k u r ≡ Some n) × (may_name k r same ≡ true))
 unfolding next
 next_cases s k u r same n q = free (is_free k) refl (may_pass k r) refl (may_name k r same) refl
   where
-    free : (f : Bool) → is_free k ≡ f → (p : Bool) → may_pass k r ≡ p → (m : Bool) → may_name k r same ≡ m → ((is_free k ≡ true) × (n ≡ s)) ⊎ ((by_rows chart s k u r ≡ To n) × (may_name k r same ≡ true))
-    free true ef true ep m em = inl (ef, (let w : To s ≡ To n = rw (ef, ep) at q in cc))
-    free true ef false ep m em = absurd (let w : NoTransition ≡ To n = rw (ef, ep) at q in let z : ◌≡◌ {A = ℕ} 0 1 = cc in omega arith)
+    free : (f : Bool) → is_free k ≡ f → (p : Bool) → may_pass k r ≡ p → (m : Bool) → may_name k r same ≡ m → ((is_free k ≡ true) × (n ≡ s)) ⊎ ((by_rows chart s k u r ≡ Some n) × (may_name k r same ≡ true))
+    free true ef true ep m em = inl (ef, (let w : Some s ≡ Some n = rw (ef, ep) at q in cc))
+    free true ef false ep m em = absurd (let w : None ≡ Some n = rw (ef, ep) at q in let z : ◌≡◌ {A = ℕ} 0 1 = cc in omega arith)
     free false ef p ep true em = inr (rw (ef, em) at q, em)
-    free false ef p ep false em = absurd (let w : NoTransition ≡ To n = rw (ef, em) at q in let z : ◌≡◌ {A = ℕ} 0 1 = cc in omega arith)
+    free false ef p ep false em = absurd (let w : None ≡ Some n = rw (ef, em) at q in let z : ◌≡◌ {A = ℕ} 0 1 = cc in omega arith)
 
 -- What holds at each number of a list.
 abbrev pub Each : (ℕ → Type 0) → List ℕ → Type 0
@@ -95,41 +93,41 @@ other_up side q = go (eqb side U) refl (eqb side D) refl
     go false ea false eb = absurd (let x : ◌≡◌ {A = ℕ} 0 U = rw (ea, eb) at q in omega arith)
 
 -- The step, once known, is put into the answer.
-pub received_by_lem : (l : Lane) (e : Event) (st : Step) → step_in l e ≡ st → received l e ≡ answer Received st l e (ended l ProtocolError)
+pub received_by_lem : (l : Lane) (e : Event) (st : Option ℕ) → step_in l e ≡ st → received l e ≡ answer Received st l e (ended l ProtocolError)
 unfolding received
 received_by_lem l e st h = rw h
 
-pub sent_by : (l : Lane) (e : Event) (st : Step) → step_out l e ≡ st → sent l e ≡ answer Sent st l e (kept l MayNotBeSent)
+pub sent_by : (l : Lane) (e : Event) (st : Option ℕ) → step_out l e ≡ st → sent l e ≡ answer Sent st l e (kept l MayNotBeSent)
 unfolding sent
 sent_by l e st h = rw h
 
 -- An accepted message made a step; any other answer is the refusal.
-pub record Leads (st : Step) : Type 0 where
+pub record Leads (st : Option ℕ) : Type 0 where
   pub next : ℕ
-  pub leads : st ≡ To next
+  pub leads : st ≡ Some next
 
 module _ (l : Lane) (e : Event) where
   pub received_leads : (received l e).refusal ≡ Accepted → Leads (step_in l e)
   received_leads h = go (step_in l e) refl
     where
-      go : (st : Step) → step_in l e ≡ st → Leads (step_in l e)
-      go (To n) q = record { next = n; leads = q }
-      go NoTransition q = absurd (let x : ◌≡◌ {A = ℕ} 9 0 = sym (ap (λ (m : Moved). m.refusal) (received_by_lem l e NoTransition q)) ∙ h in omega arith)
+      go : (st : Option ℕ) → step_in l e ≡ st → Leads (step_in l e)
+      go (Some n) q = record { next = n; leads = q }
+      go None q = absurd (let x : ◌≡◌ {A = ℕ} 9 0 = sym (ap (λ (m : Moved). m.refusal) (received_by_lem l e None q)) ∙ h in omega arith)
 
   pub sent_leads : (sent l e).refusal ≡ Accepted → Leads (step_out l e)
   sent_leads h = go (step_out l e) refl
     where
-      go : (st : Step) → step_out l e ≡ st → Leads (step_out l e)
-      go (To n) q = record { next = n; leads = q }
-      go NoTransition q = absurd (let x : ◌≡◌ {A = ℕ} 8 0 = sym (ap (λ (m : Moved). m.refusal) (sent_by l e NoTransition q)) ∙ h in omega arith)
+      go : (st : Option ℕ) → step_out l e ≡ st → Leads (step_out l e)
+      go (Some n) q = record { next = n; leads = q }
+      go None q = absurd (let x : ◌≡◌ {A = ℕ} 8 0 = sym (ap (λ (m : Moved). m.refusal) (sent_by l e None q)) ∙ h in omega arith)
 
   pub received_ended : ((received l e).refusal ≡ Accepted → ⊥) → received l e ≡ ended l ProtocolError
   unfolding received
   received_ended = go (step_in l e)
     where
-      go : (st : Step) → ((answer Received st l e (ended l ProtocolError)).refusal ≡ Accepted → ⊥) → answer Received st l e (ended l ProtocolError) ≡ ended l ProtocolError
-      go (To n) h = absurd (h refl)
-      go NoTransition h = refl
+      go : (st : Option ℕ) → ((answer Received st l e (ended l ProtocolError)).refusal ≡ Accepted → ⊥) → answer Received st l e (ended l ProtocolError) ≡ ended l ProtocolError
+      go (Some n) h = absurd (h refl)
+      go None h = refl
 
 -- The record's forecast is one that is right.
 abbrev Right : Forecast → Type 0
@@ -146,9 +144,15 @@ pub held_right : (l : Lane) → righted (forecast_held l) ≡ forecast_held l
 held_right l = right (forecast_used l.state) (righted_again l.forecast) none_right
 
 pub after_right : (r : Bool) (f : Forecast) (e : Event) → righted f ≡ f → righted (forecast_after r f e) ≡ forecast_after r f e
-after_right r f e p =
-    right (eqb e.kind BoardForecast) (right (both e.carries r) (righted_again e.forecast) p)
-    (right (eqb e.kind MachineReady) (right (both e.carries (same_forecast f (righted e.forecast))) none_right p) p)
+after_right r f e p = right (eqb e.kind BoardForecast) (new e.forecast) (right (eqb e.kind MachineReady) (clear e.forecast) p)
+  where
+    new : (o : Option Forecast) → Right (replaced r f o)
+    new None = p
+    new (Some g) = right r (righted_again g) p
+
+    clear : (o : Option Forecast) → Right (cleared f o)
+    clear None = p
+    clear (Some g) = right _ none_right p
 
 pub forecast_right : (r : Bool) (n : ℕ) (l : Lane) (e : Event) → righted (forecast_in r n l e) ≡ forecast_in r n l e
 forecast_right r n l e = right (forecast_used n) (after_right r (forecast_held l) e (held_right l)) none_right

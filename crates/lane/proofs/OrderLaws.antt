@@ -1,5 +1,5 @@
 -- What an order says of the message that gave it, for the theorems of Orders.
-use Rattle.std.specs.Prelude.{◌≡◌, refl, [], ◌∷◌, Bool, true, false, ◌⊎◌, ℕ, T, eqb}
+use Rattle.std.specs.Prelude.{◌≡◌, refl, [], ◌∷◌, Bool, true, false, ◌⊎◌, ℕ, T, eqb, Some, None}
 use Rattle.std.proofs.Common.{sym, ◌∙◌, inl, inr, ⊎_elim, arith, eqb→eq, eqb-true}
 use Rattle.lane.specs.Names.{D, Ready, Both, StartTransport, NoOrder, Run, Cancel, StopNow}
 use Rattle.lane.specs.Chart.{pick, both, either, among, Sent, chart, by_rows, next}
@@ -8,7 +8,6 @@ use Rattle.lane.proofs.Laws.{both_parts}
 use Rattle.lane.proofs.Laws.{by_rows_lem, next_cases}
 use Rattle.lane.specs.declared.Event.{Event}
 use Rattle.lane.specs.declared.Lane.{Lane}
-use Rattle.lane.specs.declared.chart.Step.TheVariants.{To, NoTransition}
 
 -- what an order says of the message
 module _ (l : Lane) (e : Event) where
@@ -49,7 +48,7 @@ end_stop false q = absurd (let x : ◌≡◌ {A = ℕ} 0 3 = q in omega arith)
 start_row : ℕ → ℕ → ℕ → ℕ → Bool
 start_row s k u n = pick (eqb k StartTransport) (both (eqb u D) (among s (Ready ∷ Both ∷ []))) true
 
-pub start_passes : (s k u : ℕ) (r same : Bool) (n : ℕ) → k ≡ StartTransport → next s k u r same ≡ To n → (u ≡ D) × ((s ≡ Ready) ⊎ (s ≡ Both))
+pub start_passes : (s k u : ℕ) (r same : Bool) (n : ℕ) → k ≡ StartTransport → next s k u r same ≡ Some n → (u ≡ D) × ((s ≡ Ready) ⊎ (s ≡ Both))
 unfolding start_row chart
 start_passes s k u r same n e q =
     ⊎_elim (λ p. absurd (let z : false ≡ true = rw e at p.0 in let x : ◌≡◌ {A = ℕ} 0 1 = cc in omega arith))
@@ -67,19 +66,19 @@ start_passes s k u r same n e q =
         one false ea false eb t = absurd t
 
 -- and sent, only in Both with the offered id
-ready_not_sent : (u : ℕ) → by_rows chart Ready StartTransport u Sent ≡ NoTransition
+ready_not_sent : (u : ℕ) → by_rows chart Ready StartTransport u Sent ≡ None
 unfolding by_rows chart
 ready_not_sent u = refl
 
-pub start_sent_passes : (s k u : ℕ) (same : Bool) (n : ℕ) → k ≡ StartTransport → next s k u Sent same ≡ To n → (s ≡ Both) × (same ≡ true)
+pub start_sent_passes : (s k u : ℕ) (same : Bool) (n : ℕ) → k ≡ StartTransport → next s k u Sent same ≡ Some n → (s ≡ Both) × (same ≡ true)
 start_sent_passes s k u same n e q =
     ⊎_elim (λ p. absurd (let z : false ≡ true = rw e at p.0 in let x : ◌≡◌ {A = ℕ} 0 1 = cc in omega arith))
     (λ p. (⊎_elim (λ es. absurd (not_ready es p.0)) (λ es. es) (start_passes s k u Sent same n e q).1, rw e at p.1))
     (next_cases s k u Sent same n q)
   where
-    not_ready : s ≡ Ready → by_rows chart s k u Sent ≡ To n → ⊥
+    not_ready : s ≡ Ready → by_rows chart s k u Sent ≡ Some n → ⊥
     not_ready es h =
-        let w : by_rows chart Ready StartTransport u Sent ≡ To n = rw (es, e) at h in
-        let v : NoTransition ≡ To n = sym (ready_not_sent u) ∙ w in
+        let w : by_rows chart Ready StartTransport u Sent ≡ Some n = rw (es, e) at h in
+        let v : None ≡ Some n = sym (ready_not_sent u) ∙ w in
         let x : ◌≡◌ {A = ℕ} 0 1 = cc in
         omega arith

@@ -1,7 +1,7 @@
 -- T2.L8: when each belt order is given, and only then.
 use Rattle.std.proofs.Math.Path.{◌≡◌, refl}
 use Rattle.std.proofs.Common.{ap, arith, eqb-true}
-use Rattle.std.specs.Prelude.{Bool, ◌⊎◌, ◌↔◌, ℕ}
+use Rattle.std.specs.Prelude.{Bool, ◌⊎◌, ◌↔◌, ℕ, Option, Some, None}
 use Rattle.std.proofs.Math.Bool.{true, false}
 use Rattle.std.proofs.Math.Logic.{inl, inr, ⊎_elim}
 use Rattle.std.proofs.Math.Dec.{eqb}
@@ -15,8 +15,6 @@ use Rattle.lane.proofs.OrderLaws.{run_says, cancel_says, stop_not, end_not, end_
 use Rattle.lane.specs.declared.Event.{Event}
 use Rattle.lane.specs.declared.Lane.{Lane}
 use Rattle.lane.specs.declared.Moved.{Moved}
-use Rattle.lane.specs.declared.chart.Step.{Step}
-use Rattle.lane.specs.declared.chart.Step.TheVariants.{To, NoTransition}
 use Rattle.lane.specs.Orders.{StartsOwn, StartsOther}
 
 -- order 3: "when a refusal that ends the connection meets Transporting, Stopped or Finished"
@@ -38,12 +36,12 @@ module _ (l : Lane) (e : Event) where
   unfolding received
   run_only h = go (step_in l e) refl h
     where
-      go : (st : Step) → step_in l e ≡ st → (answer Received st l e (ended l ProtocolError)).order ≡ Run → StartsOwn l e U
-      go (To n) q w =
+      go : (st : Option ℕ) → step_in l e ≡ st → (answer Received st l e (ended l ProtocolError)).order ≡ Run → StartsOwn l e U
+      go (Some n) q w =
           let p = run_says l e w in
           let f = start_passes l.state e.kind (other l.side) Received (carries_own l e) n p.0 q in
           record { kind = p.0; ours = other_down l.side f.0; state = p.1; named = own_id p.0 p.2 }
-      go NoTransition q w = absurd (end_not (running_used l.state) Run (inl refl) w)
+      go None q w = absurd (end_not (running_used l.state) Run (inl refl) w)
 
   pub order_run_received : (received l e).order ≡ Run ↔ StartsOwn l e U
   order_run_received = (run_only, run_if)
@@ -58,8 +56,8 @@ module _ (l : Lane) (e : Event) where
   unfolding received
   cancel_only h = go (step_in l e) refl h
     where
-      go : (st : Step) → step_in l e ≡ st → (answer Received st l e (ended l ProtocolError)).order ≡ Cancel → StartsOther l e U
-      go (To n) q w =
+      go : (st : Option ℕ) → step_in l e ≡ st → (answer Received st l e (ended l ProtocolError)).order ≡ Cancel → StartsOther l e U
+      go (Some n) q w =
           let p = cancel_says l e w in
           let f = start_passes l.state e.kind (other l.side) Received (carries_own l e) n p.0 q in
           record {
@@ -67,7 +65,7 @@ module _ (l : Lane) (e : Event) where
             ours = other_down l.side f.0;
             place = ⊎_elim inl (λ b. inr (b, other_id p.0 p.1 b)) f.1;
           }
-      go NoTransition q w = absurd (end_not (running_used l.state) Cancel (inr refl) w)
+      go None q w = absurd (end_not (running_used l.state) Cancel (inr refl) w)
 
   pub order_cancel_received : (received l e).order ≡ Cancel ↔ StartsOther l e U
   order_cancel_received = (cancel_only, cancel_if)
@@ -77,9 +75,9 @@ module _ (l : Lane) (e : Event) where
   unfolding received
   order_stop_received = go (step_in l e)
     where
-      go : (st : Step) → (answer Received st l e (ended l ProtocolError)).order ≡ StopNow ↔ (((answer Received st l e (ended l ProtocolError)).refusal ≡ ProtocolError) × (running_used l.state ≡ true))
-      go (To n) = (λ q. absurd (stop_not l e q), λ p. absurd (let x : ◌≡◌ {A = ℕ} 0 9 = p.0 in omega arith))
-      go NoTransition = (λ q. (refl, end_stop (running_used l.state) q), λ p. rw p.1)
+      go : (st : Option ℕ) → (answer Received st l e (ended l ProtocolError)).order ≡ StopNow ↔ (((answer Received st l e (ended l ProtocolError)).refusal ≡ ProtocolError) × (running_used l.state ≡ true))
+      go (Some n) = (λ q. absurd (stop_not l e q), λ p. absurd (let x : ◌≡◌ {A = ℕ} 0 9 = p.0 in omega arith))
+      go None = (λ q. (refl, end_stop (running_used l.state) q), λ p. rw p.1)
 
   -- order 1, sent; no other order is given in sending
   sent_if : StartsOwn l e D → (sent l e).order ≡ Run
@@ -89,12 +87,12 @@ module _ (l : Lane) (e : Event) where
   unfolding sent
   sent_run_only h = go (step_out l e) refl h
     where
-      go : (st : Step) → step_out l e ≡ st → (answer Sent st l e (kept l MayNotBeSent)).order ≡ Run → StartsOwn l e D
-      go (To n) q w =
+      go : (st : Option ℕ) → step_out l e ≡ st → (answer Sent st l e (kept l MayNotBeSent)).order ≡ Run → StartsOwn l e D
+      go (Some n) q w =
           let p = run_says l e w in
           let f = start_passes l.state e.kind l.side Sent (carries_own l e) n p.0 q in
           record { kind = p.0; ours = f.0; state = p.1; named = own_id p.0 p.2 }
-      go NoTransition q w = absurd (let x : ◌≡◌ {A = ℕ} 0 1 = w in omega arith)
+      go None q w = absurd (let x : ◌≡◌ {A = ℕ} 0 1 = w in omega arith)
 
   pub order_run_sent : (sent l e).order ≡ Run ↔ StartsOwn l e D
   order_run_sent = (sent_run_only, sent_if)
@@ -103,9 +101,9 @@ module _ (l : Lane) (e : Event) where
   unfolding sent
   order_sent_else = go (step_out l e) refl (eqb e.kind StartTransport) refl
     where
-      go : (st : Step) → step_out l e ≡ st → (z : Bool) → eqb e.kind StartTransport ≡ z → ((answer Sent st l e (kept l MayNotBeSent)).order ≡ Run) ⊎ ((answer Sent st l e (kept l MayNotBeSent)).order ≡ NoOrder)
-      go (To n) q true ez =
+      go : (st : Option ℕ) → step_out l e ≡ st → (z : Bool) → eqb e.kind StartTransport ≡ z → ((answer Sent st l e (kept l MayNotBeSent)).order ≡ Run) ⊎ ((answer Sent st l e (kept l MayNotBeSent)).order ≡ NoOrder)
+      go (Some n) q true ez =
           let p = start_sent_passes l.state e.kind l.side (carries_own l e) n (eqb-true e.kind 7 ez) q in
           inl (rw (p.1, p.0, ez))
-      go (To n) q false ez = inr (rw ez)
-      go NoTransition q z ez = inr refl
+      go (Some n) q false ez = inr (rw ez)
+      go None q z ez = inr refl

@@ -1,22 +1,21 @@
 -- T2.L2: in any run of calls, each record is what `next` makes of the one before.
-use Rattle.std.specs.Prelude.{◌≡◌, refl, List, [], ◌∷◌}
+use Rattle.std.specs.Prelude.{◌≡◌, refl, List, [], ◌∷◌, Some, None}
 use Rattle.std.proofs.Common.{sym, ap, subst, ◌∙◌}
 use Rattle.lane.proofs.Laws.{received_by_lem, sent_by}
 use Rattle.lane.specs.declared.Lane.{Lane}
 use Rattle.lane.specs.declared.Moved.{Moved}
-use Rattle.lane.specs.declared.chart.Step.TheVariants.{To, NoTransition}
 use Rattle.lane.specs.StepForStep.{Happening, gets, sends, ends, loses, after, Promised, Charted, Run, records}
 
 pub charted : (l : Lane) (h : Happening) (l' : Lane) → Promised l h l' → Charted l h l'
 charted l (gets e) l' p =
     record {
-      moves = λ n q. p ∙ ap (λ (m : Moved). m.lane) (received_by_lem l e (To n) q);
-      refuses = λ q. p ∙ ap (λ (m : Moved). m.lane) (received_by_lem l e NoTransition q);
+      moves = λ n q. p ∙ ap (λ (m : Moved). m.lane) (received_by_lem l e (Some n) q);
+      refuses = λ q. p ∙ ap (λ (m : Moved). m.lane) (received_by_lem l e None q);
     }
 charted l (sends e) l' p =
     record {
-      moves = λ n q. p ∙ ap (λ (m : Moved). m.lane) (sent_by l e (To n) q);
-      refuses = λ q. p ∙ ap (λ (m : Moved). m.lane) (sent_by l e NoTransition q);
+      moves = λ n q. p ∙ ap (λ (m : Moved). m.lane) (sent_by l e (Some n) q);
+      refuses = λ q. p ∙ ap (λ (m : Moved). m.lane) (sent_by l e None q);
     }
 charted l (ends refusal) l' p = p
 charted l loses l' p = p

@@ -1,27 +1,26 @@
 -- Order 3: forecasts come "from upstream", so that a new upstream lane never keeps a ForecastId.
 -- Two lanes that see one handover have the same forecast only if the downstream one keeps none.
-use Rattle.std.specs.Prelude.{◌≡◌, refl, List, [], ◌∷◌, Bool, true, false, ℕ, eqb}
+use Rattle.std.specs.Prelude.{◌≡◌, refl, List, [], ◌∷◌, Bool, true, false, ℕ, eqb, Option, Some, None}
 use Rattle.std.proofs.Common.{ap, ◌∙◌, arith, eqb-true}
 use Rattle.lane.specs.Names.{U, D, MachineReady, BoardForecast}
 use Rattle.lane.specs.Chart.{pick, both, Received, Sent}
 use Rattle.lane.specs.Ids.{no_forecast, righted, same_forecast}
-use Rattle.lane.specs.Record.{fresh, forecast_used, forecast_held, forecast_after, forecast_in, carries_own, other, step_in, step_out, received, sent}
+use Rattle.lane.specs.Record.{fresh, forecast_used, forecast_held, replaced, cleared, forecast_after, forecast_in, carries_own, other, step_in, step_out, received, sent}
 use Rattle.lane.proofs.Laws.{clash, same_picked, none_right, received_by_lem, sent_by}
 use Rattle.lane.specs.StepForStep.{Happening, gets, sends, ends, loses, after, final}
 use Rattle.lane.proofs.Forecasts.{forecast_step}
 use Rattle.lane.specs.declared.Event.{Event}
 use Rattle.lane.specs.declared.Lane.{Lane}
 use Rattle.lane.specs.declared.ids.Forecast.{Forecast}
-use Rattle.lane.specs.declared.chart.Step.{Step}
-use Rattle.lane.specs.declared.chart.Step.TheVariants.{To, NoTransition}
 
--- by the tests of a message (A: a forecast, B: a MachineReady, C: it carries an id, S: the same one)
-by_tests : (A B C S r : Bool) (f : Forecast) → both A r ≡ false
-    → pick A (pick (both C r) f no_forecast) (pick B (pick (both C S) no_forecast no_forecast) no_forecast) ≡ no_forecast
-by_tests true B C S true f h = clash h
-by_tests true B true S false f h = refl
-by_tests true B false S false f h = refl
-by_tests false B C S r f h = rw (same_picked (both C S) no_forecast) (same_picked B no_forecast)
+-- by the tests of a message (A: a forecast, B: a MachineReady), and by whether it carries an id
+by_tests : (A B r : Bool) (o : Option Forecast) → both A r ≡ false
+    → pick A (replaced r no_forecast o) (pick B (cleared no_forecast o) no_forecast) ≡ no_forecast
+by_tests true B true o h = clash h
+by_tests true B false None h = refl
+by_tests true B false (Some f) h = refl
+by_tests false B r None h = same_picked B no_forecast
+by_tests false B r (Some f) h = rw (same_picked (same_forecast no_forecast (righted f)) no_forecast) (same_picked B no_forecast)
 
 -- an upstream lane that keeps none
 pub record Bare (l : Lane) : Type 0 where
@@ -36,10 +35,10 @@ module _ (l : Lane) (bare : Bare l) where
   stays_none r n e h =
       ap (λ (f : Forecast). pick (forecast_used n) (forecast_after r f e) no_forecast) held_none
       ∙ ap (λ (f : Forecast). pick (forecast_used n) f no_forecast)
-      (by_tests (eqb e.kind BoardForecast) (eqb e.kind MachineReady) e.carries (same_forecast no_forecast (righted e.forecast)) r (righted e.forecast) h)
+      (by_tests (eqb e.kind BoardForecast) (eqb e.kind MachineReady) r e.forecast h)
       ∙ same_picked (forecast_used n) no_forecast
 
-  not_taken : (e : Event) (n : ℕ) → step_in l e ≡ To n → both (eqb e.kind BoardForecast) Received ≡ false
+  not_taken : (e : Event) (n : ℕ) → step_in l e ≡ Some n → both (eqb e.kind BoardForecast) Received ≡ false
   not_taken e n q = go (eqb e.kind BoardForecast) refl
     where
       go : (z : Bool) → eqb e.kind BoardForecast ≡ z → both z Received ≡ false
@@ -58,14 +57,14 @@ module _ (l : Lane) (bare : Bare l) where
   bare_after : (h : Happening) → Bare (after l h)
   bare_after (gets e) = go (step_in l e) refl
     where
-      go : (st : Step) → step_in l e ≡ st → Bare (received l e).lane
-      go (To n) q = rw (received_by_lem l e (To n) q) (record { ours = bare.ours; none = stays_none Received n e (not_taken e n q) })
-      go NoTransition q = rw (received_by_lem l e NoTransition q) (record { ours = bare.ours; none = refl })
+      go : (st : Option ℕ) → step_in l e ≡ st → Bare (received l e).lane
+      go (Some n) q = rw (received_by_lem l e (Some n) q) (record { ours = bare.ours; none = stays_none Received n e (not_taken e n q) })
+      go None q = rw (received_by_lem l e None q) (record { ours = bare.ours; none = refl })
   bare_after (sends e) = go (step_out l e) refl
     where
-      go : (st : Step) → step_out l e ≡ st → Bare (sent l e).lane
-      go (To n) q = rw (sent_by l e (To n) q) (record { ours = bare.ours; none = stays_none Sent n e (sent_not e) })
-      go NoTransition q = rw (sent_by l e NoTransition q) bare
+      go : (st : Option ℕ) → step_out l e ≡ st → Bare (sent l e).lane
+      go (Some n) q = rw (sent_by l e (Some n) q) (record { ours = bare.ours; none = stays_none Sent n e (sent_not e) })
+      go None q = rw (sent_by l e None q) bare
   bare_after (ends refusal) = record { ours = bare.ours; none = refl }
   bare_after loses = record { ours = bare.ours; none = refl }
 

@@ -1,5 +1,5 @@
 -- The bench cases P11 and P12, cases of records that we never write, and those of order 3, as rows of tables that compute.
-use Rattle.std.specs.Prelude.{List, [], ◌∷◌, ◌++◌, true, false, ℕ, replicate}
+use Rattle.std.specs.Prelude.{List, [], ◌∷◌, ◌++◌, ℕ, replicate, Some, None}
 use Rattle.lane.specs.Names.{U, D, NotConnected, DescribedDown, Idle, Offered, Ready, Both, Transporting, Stopped, Finished, ServiceDescription, BoardAvailable, RevokeBoardAvailable, MachineReady, StartTransport, StopTransport, CheckAlive, BoardForecast, NoOrder, Cancel, StopNow, Accepted, MayNotBeSent, ProtocolError}
 use Rattle.lane.specs.Chart.{pick}
 use Rattle.lane.specs.Record.{no_id, no_forecast, fresh, offered_used, running_used, received, sent}
@@ -27,7 +27,7 @@ abbrev moved : ℕ → Lane → ℕ → Moved
 moved refusal l order = record { refusal = refusal; lane = l; order = order }
 
 abbrev pub event : ℕ → List ℕ → Event
-event kind id = record { kind = kind; id = id; carries = false; forecast = no_forecast }
+event kind id = record { kind = kind; id = id; forecast = None }
 
 -- two ids
 abbrev pub a : List ℕ
@@ -85,12 +85,12 @@ rubbish = forecast 5 (replicate 80 112)
 abbrev over : Forecast
 over = forecast 81 (replicate 80 112)
 
--- a message with a ForecastId, and one without, whatever stands in its place
+-- a message with a ForecastId, and one without
 abbrev pub carrying : ℕ → Forecast → Event
-carrying kind f = record { kind = kind; id = no_id; carries = true; forecast = f }
+carrying kind f = record { kind = kind; id = no_id; forecast = Some f }
 
 abbrev pub bare : ℕ → Event
-bare kind = record { kind = kind; id = no_id; carries = false; forecast = p }
+bare kind = record { kind = kind; id = no_id; forecast = None }
 
 -- a lane of either side, with the ids that its state uses
 abbrev pub down : ℕ → Forecast → Lane

@@ -1,8 +1,6 @@
 -- The state chart: which message makes which transition.
-use Rattle.std.specs.Prelude.{List, [], ◌∷◌, Bool, true, false, ℕ, eqb}
+use Rattle.std.specs.Prelude.{List, [], ◌∷◌, Bool, true, false, ℕ, eqb, Option, Some, None}
 use Rattle.lane.specs.Names.{U, D, NotConnected, DescribedDown, Idle, Offered, Ready, Both, Transporting, Stopped, Finished, Unknown, ServiceDescription, Notification, BoardAvailable, RevokeBoardAvailable, MachineReady, RevokeMachineReady, StartTransport, StopTransport, TransportFinished, CheckAlive, BoardForecast}
-use Rattle.lane.specs.declared.chart.Step.{Step}
-use Rattle.lane.specs.declared.chart.Step.TheVariants.{To, NoTransition}
 
 abbrev pub pick : {A : Type 0} → Bool → A → A → A
 pick true a b = a
@@ -77,9 +75,9 @@ abbrev pub is_for : Row → ℕ → ℕ → ℕ → Bool → Bool
 is_for x s k u received = both (eqb s x.state) (both (eqb k x.message) (both (either x.may_be_sent received) (eqb u x.sender)))
 
 -- "Anything else, or a message from the wrong side, is no transition."
-unfoldable pub by_rows : List Row → ℕ → ℕ → ℕ → Bool → Step
-by_rows [] s k u received = NoTransition
-by_rows (x ∷ xs) s k u received = pick (is_for x s k u received) (To x.next) (by_rows xs s k u received)
+unfoldable pub by_rows : List Row → ℕ → ℕ → ℕ → Bool → Option ℕ
+by_rows [] s k u received = None
+by_rows (x ∷ xs) s k u received = pick (is_for x s k u received) (Some x.next) (by_rows xs s k u received)
 
 -- "Notification, CheckAlive and kind 0 come from either side in every state and change neither the state nor an id in use"
 abbrev pub is_free : ℕ → Bool
@@ -95,7 +93,7 @@ may_name k received same =
     pick (eqb k StartTransport) (either received same) (pick (among k (StopTransport ∷ TransportFinished ∷ [])) same true)
 
 -- What a message does to the state: of kind k, from side u, received or sent, with the id in use (same) or another.
-unfoldable pub next : ℕ → ℕ → ℕ → Bool → Bool → Step
+unfoldable pub next : ℕ → ℕ → ℕ → Bool → Bool → Option ℕ
 next s k u received same =
-    pick (is_free k) (pick (may_pass k received) (To s) NoTransition)
-    (pick (may_name k received same) (by_rows chart s k u received) NoTransition)
+    pick (is_free k) (pick (may_pass k received) (Some s) None)
+    (pick (may_name k received same) (by_rows chart s k u received) None)

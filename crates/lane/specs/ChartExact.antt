@@ -1,12 +1,10 @@
 -- T2.L1: `next` has exactly the paper's rows. What it answers for the nine states, the twelve kinds, both senders, received and sent,
 -- with the id in use and with another, is the table below, written out from the paper; beyond these numbers nothing moves.
-use Rattle.std.specs.Prelude.{◌≡◌, List, [], ◌∷◌, Bool, true, false, ℕ, ◌+◌, ◌≤◌}
+use Rattle.std.specs.Prelude.{◌≡◌, List, [], ◌∷◌, Bool, true, false, ℕ, ◌+◌, ◌≤◌, Option, Some, None}
 use Prim.Native.Char.{code}
 use Prim.Native.String.{String, [] as none, ◌∷◌ as ◌then◌}
 use Rattle.lane.specs.Names.{U, D, NotConnected, DescribedDown, Idle, Offered, Ready, Both, Transporting, Stopped, Finished, Unknown, ServiceDescription, Notification, BoardAvailable, RevokeBoardAvailable, MachineReady, RevokeMachineReady, StartTransport, StopTransport, TransportFinished, CheckAlive, BoardForecast}
 use Rattle.lane.specs.Chart.{among, Received, Sent, next}
-use Rattle.lane.specs.declared.chart.Step.{Step}
-use Rattle.lane.specs.declared.chart.Step.TheVariants.{To, NoTransition}
 
 unfoldable pub text : String → List ℕ
 text none = []
@@ -49,9 +47,9 @@ expected =
     []
 
 -- The same lines, computed by `next`.
-unfoldable pub shown : Step → ℕ
-shown (To n) = n + code "0"
-shown NoTransition = code "-"
+unfoldable pub shown : Option ℕ → ℕ
+shown (Some n) = n + code "0"
+shown None = code "-"
 
 unfoldable pub cells : ℕ → ℕ → Bool → Bool → List ℕ → List ℕ
 cells s u received same [] = []

@@ -1,6 +1,7 @@
 -- Order 3: "The record keeps the last ForecastId received in a forecast (one without an id, or one sent, leaves it) ..,
 -- cleared when a MachineReady carrying the same id passes or the lane returns to NotConnected."
-use Rattle.std.specs.Prelude.{◌≡◌, List, [], ◌∷◌, Bool, true, ℕ, eqb}
+use Rattle.std.specs.Prelude.{◌≡◌, List, [], ◌∷◌, Bool, ℕ, eqb, Option, Some, None}
+use Rattle.std.specs.Option.{option_map}
 use Rattle.lane.specs.Names.{MachineReady, BoardForecast, Accepted}
 use Rattle.lane.specs.Chart.{pick, both, Received, Sent}
 use Rattle.lane.specs.Ids.{same_id, id_of}
@@ -8,6 +9,7 @@ use Rattle.lane.specs.Record.{forecast_used, received, sent}
 use Rattle.lane.specs.StepForStep.{Happening, gets, sends, ends, loses, after}
 use Rattle.lane.specs.declared.Event.{Event}
 use Rattle.lane.specs.declared.Lane.{Lane}
+use Rattle.lane.specs.declared.ids.Forecast.{Forecast}
 
 -- The ForecastId that a lane keeps; no bytes: none.
 abbrev pub id_kept : Lane → List ℕ
@@ -21,12 +23,14 @@ pub data Saying : Type 0 where
   silent : Saying
 
 -- a message that passes: a forecast with an id, received; a MachineReady with one, received or sent
+abbrev pub says : Bool → ℕ → Option Forecast → Saying
+says is_received kind None = silent
+says is_received kind (Some named) =
+    pick (eqb kind MachineReady) (readies (id_of named))
+    (pick (both (eqb kind BoardForecast) is_received) (forecasts (id_of named)) silent)
+
 abbrev pub said : Bool → Event → Saying
-said is_received e =
-    pick e.carries
-    (pick (eqb e.kind MachineReady) (readies (id_of e.forecast))
-    (pick (both (eqb e.kind BoardForecast) is_received) (forecasts (id_of e.forecast)) silent))
-    silent
+said is_received e = says is_received e.kind e.forecast
 
 -- on the lane that it meets: what is refused does not pass, and ends the connection if it was received
 abbrev pub saying : Lane → Happening → Saying
@@ -49,5 +53,4 @@ last_said id l (h ∷ hs) = last_said (keeps id (saying l h)) (after l h) hs
 -- A message of a kind, with a ForecastId.
 pub record Carries (e : Event) (k : ℕ) (id : List ℕ) : Type 0 where
   pub kind : e.kind ≡ k
-  pub there : e.carries ≡ true
-  pub named : id_of e.forecast ≡ id
+  pub named : option_map id_of e.forecast ≡ Some id

@@ -1,6 +1,6 @@
 -- "A lane record holds our side, one of nine states, the offered BoardId and the running BoardId"; with order 3, "the last ForecastId received in a forecast".
 -- What a message, received or sent, makes of it; every record has an answer, also one that we never write.
-use Rattle.std.specs.Prelude.{List, [], ◌∷◌, Bool, ℕ, eqb}
+use Rattle.std.specs.Prelude.{List, [], ◌∷◌, Bool, ℕ, eqb, Option, Some, None}
 use Rattle.lane.specs.Names.{U, D, NotConnected, Idle, Offered, Ready, Both, Transporting, Stopped, Finished, BoardAvailable, MachineReady, StartTransport, BoardForecast, NoOrder, Run, Cancel, StopNow, Accepted, MayNotBeSent, ProtocolError}
 use Rattle.lane.specs.Chart.{pick, both, among, Received, Sent, next}
 pub use Rattle.lane.specs.Ids.{no_id, no_forecast, same_forecast}
@@ -9,8 +9,6 @@ use Rattle.lane.specs.declared.Event.{Event}
 use Rattle.lane.specs.declared.Lane.{Lane}
 use Rattle.lane.specs.declared.Moved.{Moved}
 use Rattle.lane.specs.declared.ids.Forecast.{Forecast}
-use Rattle.lane.specs.declared.chart.Step.{Step}
-use Rattle.lane.specs.declared.chart.Step.TheVariants.{To, NoTransition}
 
 -- "A new lane of either side starts as NotConnected"
 abbrev pub fresh : ℕ → Lane
@@ -39,13 +37,22 @@ forecast_used s = among s (Idle ∷ Offered ∷ Ready ∷ Both ∷ Transporting 
 abbrev pub forecast_held : Lane → Forecast
 forecast_held l = pick (forecast_used l.state) (righted l.forecast) no_forecast
 
--- The forecast behind a message that passes, received or sent:
--- "The record keeps the last ForecastId received in a forecast (one without an id, or one sent, leaves it)",
--- "cleared when a MachineReady carrying the same id passes".
+-- "The record keeps the last ForecastId received in a forecast (one without an id, or one sent, leaves it)":
+-- what is held behind a forecast that passes, received or sent, with the id that it carries.
+abbrev pub replaced : Bool → Forecast → Option Forecast → Forecast
+replaced received held None = held
+replaced received held (Some named) = pick received (righted named) held
+
+-- "cleared when a MachineReady carrying the same id passes": what is held behind it.
+abbrev pub cleared : Forecast → Option Forecast → Forecast
+cleared held None = held
+cleared held (Some named) = pick (same_forecast held (righted named)) no_forecast held
+
+-- The forecast behind a message that passes, received or sent.
 abbrev pub forecast_after : Bool → Forecast → Event → Forecast
 forecast_after received held e =
-    pick (eqb e.kind BoardForecast) (pick (both e.carries received) (righted e.forecast) held)
-    (pick (eqb e.kind MachineReady) (pick (both e.carries (same_forecast held (righted e.forecast))) no_forecast held) held)
+    pick (eqb e.kind BoardForecast) (replaced received held e.forecast)
+    (pick (eqb e.kind MachineReady) (cleared held e.forecast) held)
 
 -- The forecast, once a message has led to state n.
 abbrev pub forecast_in : Bool → ℕ → Lane → Event → Forecast
@@ -104,19 +111,19 @@ abbrev pub ended : Lane → ℕ → Moved
 ended l refusal = record { refusal = refusal; lane = blank l; order = end_order l.state }
 
 -- The answer, by the chart's step: accepted, or else the refusal.
-abbrev pub answer : Bool → Step → Lane → Event → Moved → Moved
-answer received (To n) l e refused = accepted received n l e
-answer received NoTransition l e refused = refused
+abbrev pub answer : Bool → Option ℕ → Lane → Event → Moved → Moved
+answer received (Some n) l e refused = accepted received n l e
+answer received None l e refused = refused
 
 -- What we receive, the other side has sent; to a side that is neither U nor D, nobody sends.
 abbrev pub other : ℕ → ℕ
 other side = pick (eqb side U) D (pick (eqb side D) U 0)
 
 -- The chart's step for a message that is received, and for one that is to be sent.
-abbrev pub step_in : Lane → Event → Step
+abbrev pub step_in : Lane → Event → Option ℕ
 step_in l e = next l.state e.kind (other l.side) Received (carries_own l e)
 
-abbrev pub step_out : Lane → Event → Step
+abbrev pub step_out : Lane → Event → Option ℕ
 step_out l e = next l.state e.kind l.side Sent (carries_own l e)
 
 -- A received message without a transition: "9 .. protocol error | NotConnected".

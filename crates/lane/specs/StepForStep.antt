@@ -1,11 +1,9 @@
 -- T2.L2: in any run of calls, each record is what `next` makes of the one before.
-use Rattle.std.specs.Prelude.{◌≡◌, List, [], ◌∷◌, Bool, ℕ}
+use Rattle.std.specs.Prelude.{◌≡◌, List, [], ◌∷◌, Bool, ℕ, Option, Some, None}
 use Rattle.lane.specs.Chart.{Received, Sent}
 use Rattle.lane.specs.Record.{blank, accepted, ended, step_in, step_out, received, sent}
 use Rattle.lane.specs.declared.Event.{Event}
 use Rattle.lane.specs.declared.Lane.{Lane}
-use Rattle.lane.specs.declared.chart.Step.{Step}
-use Rattle.lane.specs.declared.chart.Step.TheVariants.{To, NoTransition}
 
 -- What happens to a lane: a message is received or sent, a refusal ends the connection, the connection is lost.
 pub data Happening : Type 0 where
@@ -25,9 +23,9 @@ abbrev pub Promised : Lane → Happening → Lane → Type 0
 Promised l h l' = l' ≡ after l h
 
 -- What the chart's step makes of it: the next state with its ids, or else a record that is named.
-pub record Follows (received : Bool) (l : Lane) (e : Event) (step : Step) (l' otherwise : Lane) : Type 0 where
-  pub moves : (n : ℕ) → step ≡ To n → l' ≡ (accepted received n l e).lane
-  pub refuses : step ≡ NoTransition → l' ≡ otherwise
+pub record Follows (received : Bool) (l : Lane) (e : Event) (step : Option ℕ) (l' otherwise : Lane) : Type 0 where
+  pub moves : (n : ℕ) → step ≡ Some n → l' ≡ (accepted received n l e).lane
+  pub refuses : step ≡ None → l' ≡ otherwise
 
 abbrev pub Charted : Lane → Happening → Lane → Type 0
 Charted l (gets e) l' = Follows Received l e (step_in l e) l' (blank l)

@@ -3,7 +3,7 @@ ghost use Rattle.std.specs.Prelude.{◌≡◌};
 ghost use Rattle.lane.specs.Ids as says;
 
 /// A ForecastId: its first `length` bytes, with zeros behind. No bytes: none.
-#[derive(Clone, Copy)]
+#[derive(Clone, Copy, PartialEq, Eq)]
 pub struct Forecast {
     pub length: u8,
     pub bytes: [u8; 80],

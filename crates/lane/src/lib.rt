@@ -2,20 +2,18 @@
 #![tactic(auto)]
 
 mod names; // names.rt: the numbers by name
-mod chart; // chart.rt: what the chart answers
 mod ids; // ids.rt: the ForecastId
 
 ghost use Rattle.std.specs.Prelude.{◌≡◌};
 ghost use Rattle.lane.specs.Names.{U, D};
 ghost use Rattle.lane.specs.Record as says;
 
-pub use chart::Step;
 use grammar::Limits;
 pub use ids::Forecast;
 pub use names::{Kind, Order, Refusal, Side, State};
 
 /// A lane: our side, one of nine states, the two BoardIds, and the ForecastId that is kept.
-#[derive(Clone, Copy)]
+#[derive(Clone, Copy, PartialEq, Eq)]
 pub struct Lane {
     pub side: u8,
     pub state: u8,
@@ -24,14 +22,12 @@ pub struct Lane {
     pub forecast: Forecast,
 }
 
-/// What a lane looks at in a message: its kind, and its BoardId (any bytes where its kind has none);
-/// whether it carries a ForecastId, and that (any where it carries none).
+/// What a lane looks at in a message: its kind, its BoardId (any bytes where its kind has none), and the ForecastId that it carries.
 #[derive(Clone, Copy)]
 pub struct Event {
     pub kind: u8,
     pub id: [u8; 36],
-    pub carries: bool,
-    pub forecast: Forecast,
+    pub forecast: Option<Forecast>,
 }
 
 /// What a message did: a refusal number (0: accepted), the lane after it, and the belt order.

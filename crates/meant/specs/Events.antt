@@ -1,5 +1,5 @@
 -- What the chart looks at in a message.
-use Rattle.std.specs.Prelude.{◌≡◌, ◌++◌, Bool, true, false, ◌&&◌, cond, ℕ, ◌+◌, ◌≤◌, length, take, drop, replicate, leb}
+use Rattle.std.specs.Prelude.{◌≡◌, ◌++◌, Option, Some, None, ◌&&◌, cond, ℕ, ◌+◌, ◌≤◌, length, take, drop, replicate, leb}
 use Rattle.lane.specs.Record.{no_forecast}
 use Rattle.lane.specs.declared.Event.{Event}
 use Rattle.lane.specs.declared.ids.Forecast.{Forecast}
@@ -23,12 +23,13 @@ abbrev pub forecast_of : Carried → Forecast
 forecast_of no_forecast_case = no_forecast
 forecast_of (a_forecast id) = record { length = length id; bytes = id ++ drop (length id) (replicate 80 0) }
 
-abbrev pub is_there : Carried → Bool
-is_there no_forecast_case = false
-is_there (a_forecast id) = true
+-- as an event has it
+abbrev pub forecast_told : Carried → Option Forecast
+forecast_told no_forecast_case = None
+forecast_told (a_forecast id) = Some (forecast_of (a_forecast id))
 
 abbrev pub event_with : ℕ → Bytes → Carried → Event
-event_with k id f = record { kind = k; id = id; carries = is_there f; forecast = forecast_of f }
+event_with k id f = record { kind = k; id = id; forecast = forecast_told f }
 
 abbrev pub event_of : Message → Carried → Event
 event_of m f = event_with m.kind (id_of m) f

@@ -1,21 +1,20 @@
 -- What a match over the state and one over the kind show of the chart's rows.
+use Rattle.std.specs.Prelude.{Option, None}
 use mathlib.Core.Path.{◌≡◌, refl, ◌∙◌}
 use mathlib.Core.List.{List, [], ◌∷◌}
 use mathlib.Core.Bool.{Bool, true, false}
 use Prim.Native.Nat.{ℕ}
 use native.Mathlib.Decide.{ℕ_discrete}
 use lib.Dec.{T, eqb}
-use borrow.Author.Tests.{eq-eqb, ne_eqb}
+use borrow.Author.Tests.{ne_eqb}
 use Rattle.lane.specs.Chart.{pick, both, either, among, Row, chart, by_rows}
 use Rattle.lane.proofs.Laws.{both_parts}
 use Rattle.moves.specs.Entry.{IsEntry, lets}
 use Rattle.moves.specs.declared.chart.Entry.{Entry}
-use Rattle.moves.specs.declared.chart.Entry.TheVariants.{From, ReceivedFrom, Nothing}
-use Rattle.lane.specs.declared.chart.Step.TheVariants.{To, NoTransition}
 
 -- at an arm's state and kind the chart computes
-pub at : {s k s₀ k₀ : ℕ} {e : Entry} → s ≡ s₀ → k ≡ k₀ → ((u : ℕ) (r : Bool) → lets e u r ≡ by_rows chart s₀ k₀ u r) → IsEntry s k e
-at es ek h = record { says = λ u r. rw (es, ek) (h u r) }
+pub at : {s k s₀ k₀ : ℕ} {e e₀ : Option Entry} → e ≡ e₀ → s ≡ s₀ → k ≡ k₀ → ((u : ℕ) (r : Bool) → lets e₀ u r ≡ by_rows chart s₀ k₀ u r) → IsEntry s k e
+at q es ek h = record { says = λ u r. rw (q, es, ek) (h u r) }
 
 -- what a match has shown at `_`: the number is none of its keys (the last one first)
 abbrev pub Past : List ℕ → ℕ → Type 0
@@ -39,7 +38,7 @@ off_kind : (z : Bool) (ks : List ℕ) (k m : ℕ) → Past ks k → T (pick z (a
 off_kind true ks k m p t b = rw (past ks k m p t)
 off_kind false ks k m p t b = refl
 
-no_kind : (s : ℕ) (ks : List ℕ) (k u : ℕ) (r : Bool) (xs : List Row) → Past ks k → T (only_kinds s ks xs) → NoTransition ≡ by_rows xs s k u r
+no_kind : (s : ℕ) (ks : List ℕ) (k u : ℕ) (r : Bool) (xs : List Row) → Past ks k → T (only_kinds s ks xs) → None ≡ by_rows xs s k u r
 unfolding by_rows
 no_kind s ks k u r [] p t = refl
 no_kind s ks k u r (x ∷ xs) p t =
@@ -48,7 +47,7 @@ no_kind s ks k u r (x ∷ xs) p t =
     (no_kind s ks k u r xs p b.1)
 
 -- a kind that no arm of the state names
-pub other_kind : {s k : ℕ} (s₀ : ℕ) (ks : List ℕ) → T (only_kinds s₀ ks chart) → s ≡ s₀ → Past ks k → IsEntry s k Nothing
+pub other_kind : {s k : ℕ} (s₀ : ℕ) (ks : List ℕ) → T (only_kinds s₀ ks chart) → s ≡ s₀ → Past ks k → IsEntry s k None
 other_kind {k = k} s₀ ks t es p = record { says = λ u r. rw es (no_kind s₀ ks k u r chart p t) }
 
 -- the rows are for the states ss only
@@ -56,7 +55,7 @@ abbrev pub only_states : List ℕ → List Row → Bool
 only_states ss [] = true
 only_states ss (x ∷ xs) = both (among x.state ss) (only_states ss xs)
 
-no_state : (s : ℕ) (ss : List ℕ) (k u : ℕ) (r : Bool) (xs : List Row) → Past ss s → T (only_states ss xs) → NoTransition ≡ by_rows xs s k u r
+no_state : (s : ℕ) (ss : List ℕ) (k u : ℕ) (r : Bool) (xs : List Row) → Past ss s → T (only_states ss xs) → None ≡ by_rows xs s k u r
 unfolding by_rows
 no_state s ss k u r [] p t = refl
 no_state s ss k u r (x ∷ xs) p t =
@@ -64,26 +63,5 @@ no_state s ss k u r (x ∷ xs) p t =
     rw (past ss s x.state p b.0) (no_state s ss k u r xs p b.1)
 
 -- a state that no arm names
-pub other_state : {s k : ℕ} (ss : List ℕ) → T (only_states ss chart) → Past ss s → IsEntry s k Nothing
+pub other_state : {s k : ℕ} (ss : List ℕ) → T (only_states ss chart) → Past ss s → IsEntry s k None
 other_state {s} {k} ss t p = record { says = λ u r. no_state s ss k u r chart p t }
-
--- what an entry that was taken apart says of the rows
-module _ {s k : ℕ} {e : Entry} (is : IsEntry s k e) (u : ℕ) (r : Bool) where
-  pub nothing : e ≡ Nothing → NoTransition ≡ by_rows chart s k u r
-  nothing q = rw q at (is.says u r)
-
-module _ {s k : ℕ} {e : Entry} (is : IsEntry s k e) (u : ℕ) (r : Bool) (side n : ℕ) where
-  pub from_side : e ≡ From side n → u ≡ side → To n ≡ by_rows chart s k u r
-  from_side q h = rw (q, eq-eqb u side h) at (is.says u r)
-
-  pub from_other : e ≡ From side n → (u ≡ side → ⊥) → NoTransition ≡ by_rows chart s k u r
-  from_other q h = rw (q, ne_eqb u side h) at (is.says u r)
-
-  pub received_side : e ≡ ReceivedFrom side n → r ≡ true → u ≡ side → To n ≡ by_rows chart s k u r
-  received_side q t h = rw t (rw (q, eq-eqb u side h) at (is.says u true))
-
-  pub received_other_lem : e ≡ ReceivedFrom side n → r ≡ true → (u ≡ side → ⊥) → NoTransition ≡ by_rows chart s k u r
-  received_other_lem q t h = rw t (rw (q, ne_eqb u side h) at (is.says u true))
-
-  pub received_only : e ≡ ReceivedFrom side n → r ≡ false → NoTransition ≡ by_rows chart s k u r
-  received_only q t = rw t (rw q at (is.says u false))

@@ -1,4 +1,5 @@
 -- What the promises exclude: "a reader that refuses everything or gives one fixed message"; "a lane that does nothing, or follows the first message and then only claims to".
+use Rattle.std.specs.Prelude.{Some, None}
 use mathlib.Core.Path.{◌≡◌, refl, sym, ap, ◌∙◌}
 use mathlib.Core.List.{[]}
 use mathlib.Core.Logic.{◌⊎◌, inl, inr, ⊎_elim}
@@ -10,7 +11,6 @@ use Rattle.lane.specs.Chart.{chart, by_rows, next}
 use Rattle.lane.specs.Record.{fresh, step_in, step_out}
 use Rattle.lane.specs.declared.Event.{Event}
 use Rattle.lane.specs.declared.Lane.{Lane}
-use Rattle.lane.specs.declared.chart.Step.TheVariants.{To, NoTransition}
 use Rattle.message.specs.Checked.{Checks}
 use Rattle.message.specs.Messages.{message_from}
 use Rattle.message.specs.declared.checking.Checked.{Checked}
@@ -38,7 +38,7 @@ not_one_message c c' h h' e =
     omega arith
 
 -- P2 is answered by 0 in every lane, if there is room
-alive_step : (l : Lane) (i : Event) → i.kind ≡ 10 → step_in l i ≡ To l.state
+alive_step : (l : Lane) (i : Event) → i.kind ≡ 10 → step_in l i ≡ Some l.state
 unfolding next
 alive_step l i e = rw e refl
 
@@ -60,13 +60,13 @@ pub not_nine : {l l' : Lane} {old : Bytes} → Follows l ProtocolError l' (recei
 not_nine p = ⊎_elim (λ e. omega arith) (λ e. omega arith) (alive_answered p)
 
 -- nor refuses to send: the downstream side's first ServiceDescription may be sent
-service_step : (i : Event) → i.kind ≡ ServiceDescription → step_out (fresh D) i ≡ To DescribedDown
+service_step : (i : Event) → i.kind ≡ ServiceDescription → step_out (fresh D) i ≡ Some DescribedDown
 unfolding next by_rows chart
 service_step i e = rw e refl
 
 mute_never : {m : Message} {texts old : Bytes} {l' : Lane} → m.kind ≡ ServiceDescription → refusal_of m texts ≡ 0 → Follows (fresh D) MayNotBeSent l' (sends m texts old) → ⊥
 mute_never k z (refuses n e f) = n z
-mute_never {m} {texts} k z (may_not_case a q e f) = let x : To DescribedDown ≡ NoTransition = sym (service_step (event_sent m texts) k) ∙ q in let y : ◌≡◌ {A = ℕ} 0 1 = cc in omega arith
+mute_never {m} {texts} k z (may_not_case a q e f) = let x : Some DescribedDown ≡ None = sym (service_step (event_sent m texts) k) ∙ q in let y : ◌≡◌ {A = ℕ} 0 1 = cc in omega arith
 mute_never k z (no_room_case x a q h e f) = omega arith
 mute_never k z (goes x a q h e f) = omega arith
 

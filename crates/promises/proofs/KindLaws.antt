@@ -1,4 +1,5 @@
 -- What the chart lets pass to be sent is a kind of the table.
+use Rattle.std.specs.Prelude.{Option, Some, None}
 use mathlib.Core.Path.{◌≡◌, refl, sym, ap, ◌∙◌}
 use mathlib.Core.Bool.{Bool, true, false}
 use mathlib.Core.Logic.{⊎_elim}
@@ -11,8 +12,6 @@ use Rattle.lane.specs.Record.{carries_own, step_out}
 use Rattle.lane.proofs.Laws.{by_rows_lem, is_true, next_cases, sent_by}
 use Rattle.lane.specs.declared.Lane.{Lane}
 use Rattle.lane.specs.declared.Moved.{Moved}
-use Rattle.lane.specs.declared.chart.Step.{Step}
-use Rattle.lane.specs.declared.chart.Step.TheVariants.{To, NoTransition}
 use Rattle.grammar.specs.Bytes.{Bytes}
 use Rattle.message.specs.declared.cells.Message.{Message}
 use Rattle.table.specs.Table.{table, is_kind}
@@ -33,11 +32,11 @@ free_kind k e z = go (eqb k 2) refl (eqb k 10) refl (eqb k 0) refl
     go false ea false eb true ec = absurd (z (eqb-true k 0 ec))
     go false ea false eb false ec = absurd (let x : false ≡ true = rw (ea, eb, ec) at e in let y : ◌≡◌ {A = ℕ} 0 1 = cc in omega arith)
 
-none_sent : (s k u : ℕ) (same : Bool) (n : ℕ) → k ≡ 0 → next s k u IsSent same ≡ To n → ⊥
+none_sent : (s k u : ℕ) (same : Bool) (n : ℕ) → k ≡ 0 → next s k u IsSent same ≡ Some n → ⊥
 unfolding next
-none_sent s k u same n e q = let z : NoTransition ≡ To n = rw e at q in let y : ◌≡◌ {A = ℕ} 0 1 = cc in omega arith
+none_sent s k u same n e q = let z : None ≡ Some n = rw e at q in let y : ◌≡◌ {A = ℕ} 0 1 = cc in omega arith
 
-sendable_kind : (s k u : ℕ) (same : Bool) (n : ℕ) → next s k u IsSent same ≡ To n → is_kind k ≡ true
+sendable_kind : (s k u : ℕ) (same : Bool) (n : ℕ) → next s k u IsSent same ≡ Some n → is_kind k ≡ true
 unfolding kind_row chart table
 sendable_kind s k u same n q =
     ⊎_elim (λ p. free_kind k p.0 (λ e. none_sent s k u same n e q))
@@ -47,6 +46,6 @@ sendable_kind s k u same n q =
 pub accepted_kind : (l : Lane) (m : Message) (texts : Bytes) → (moved_by l m texts).refusal ≡ 0 → is_kind m.kind ≡ true
 accepted_kind l m texts z = go (step_out l (event_sent m texts)) refl
   where
-    go : (st : Step) → step_out l (event_sent m texts) ≡ st → is_kind m.kind ≡ true
-    go (To n) e = sendable_kind l.state m.kind l.side (carries_own l (event_sent m texts)) n e
-    go NoTransition e = absurd (let x : 8 ≡ 0 = sym (ap (λ (v : Moved). v.refusal) (sent_by l (event_sent m texts) NoTransition e)) ∙ z in omega arith)
+    go : (st : Option ℕ) → step_out l (event_sent m texts) ≡ st → is_kind m.kind ≡ true
+    go (Some n) e = sendable_kind l.state m.kind l.side (carries_own l (event_sent m texts)) n e
+    go None e = absurd (let x : 8 ≡ 0 = sym (ap (λ (v : Moved). v.refusal) (sent_by l (event_sent m texts) None e)) ∙ z in omega arith)

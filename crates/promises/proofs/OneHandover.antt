@@ -1,5 +1,6 @@
 -- "two makers must see one handover": what one lane sends, the lane of the other side accepts, and both are left in the same state, with the same BoardIds
 -- and order. Of forecasts the receiver's lane keeps what the message carries; the sender's does not, so the two need not keep the same.
+use Rattle.std.specs.Prelude.{Option, Some, None}
 use mathlib.Core.Path.{◌≡◌, refl, sym, ap, subst, ◌∙◌}
 use mathlib.Core.List.{◌++◌}
 use mathlib.Core.Bool.{Bool, true, false}
@@ -17,8 +18,6 @@ use Rattle.lane.proofs.Laws.{by_rows_lem, received_by_lem, sent_by}
 use Rattle.lane.specs.declared.Event.{Event}
 use Rattle.lane.specs.declared.Lane.{Lane}
 use Rattle.lane.specs.declared.Moved.{Moved}
-use Rattle.lane.specs.declared.chart.Step.{Step}
-use Rattle.lane.specs.declared.chart.Step.TheVariants.{To, NoTransition}
 use Rattle.table.specs.Table.{table}
 use Rattle.table.specs.Theorems.{each_rows}
 use Rattle.table.specs.Says.{child_of, said_of}
@@ -44,32 +43,32 @@ pub fresh_mirrored : Mirrored (fresh U) (fresh D)
 fresh_mirrored = record { ours = inl refl; theirs = refl; state = refl; offered = refl; running = refl }
 
 -- what may be sent is taken by the other side, with the same next state
-leads_to : Step → ℕ → Bool
-leads_to (To m) n = eqb m n
-leads_to NoTransition n = false
+leads_to : Option ℕ → ℕ → Bool
+leads_to (Some m) n = eqb m n
+leads_to None n = false
 
-leads_to_lem : (st : Step) (n : ℕ) → T (leads_to st n) → st ≡ To n
+leads_to_lem : (st : Option ℕ) (n : ℕ) → T (leads_to st n) → st ≡ Some n
 unfolding leads_to
-leads_to_lem (To m) n t = ap To (eqb→eq m n t)
-leads_to_lem NoTransition n t = absurd t
+leads_to_lem (Some m) n t = ap Some (eqb→eq m n t)
+leads_to_lem None n t = absurd t
 
 taken : ℕ → ℕ → ℕ → ℕ → Bool
 taken s k u n = leads_to (by_rows chart s k u IsReceived) n
 
-rows_taken : (s k u n : ℕ) → by_rows chart s k u IsSent ≡ To n → by_rows chart s k u IsReceived ≡ To n
+rows_taken : (s k u n : ℕ) → by_rows chart s k u IsSent ≡ Some n → by_rows chart s k u IsReceived ≡ Some n
 unfolding taken leads_to chart by_rows
 rows_taken s k u n q = leads_to_lem (by_rows chart s k u IsReceived) n (by_rows_lem taken s k u n IsSent chart tt q)
 
 may_name_lem : (k : ℕ) (same : Bool) → may_name k IsSent same ≡ true → may_name k IsReceived same ≡ true
 may_name_lem k same h = cases (eqb k 7) (λ e. rw e refl) (λ e. rw e (rw e at h))
 
-sent_taken : (s k u : ℕ) (same : Bool) (n : ℕ) → next s k u IsSent same ≡ To n → next s k u IsReceived same ≡ To n
+sent_taken : (s k u : ℕ) (same : Bool) (n : ℕ) → next s k u IsSent same ≡ Some n → next s k u IsReceived same ≡ Some n
 unfolding next
 sent_taken s k u same n q =
     cases (is_free k) (λ f. cases (eqb k 0) (λ z. no_step (rw (f, z) at q)) (λ z. rw (f, z) (rw (f, z) at q)))
     (λ f. cases (may_name k IsSent same) (λ m. rw (f, may_name_lem k same m) (rows_taken s k u n (rw (f, m) at q))) (λ m. no_step (rw (f, m) at q)))
   where
-    no_step : {X : Type 0} → NoTransition ≡ To n → X
+    no_step : {X : Type 0} → None ≡ Some n → X
     no_step e = absurd (let x : ◌≡◌ {A = ℕ} 0 1 = cc in omega arith)
 
 -- the two lanes
@@ -81,22 +80,22 @@ module _ {l l' : Lane} (w : Mirrored l l') where
   same_own e = rw (w.offered, w.running) refl
 
   -- a step of the sender's is a step of the receiver's
-  same_step : (e : Event) (n : ℕ) → step_out l e ≡ To n
+  same_step : (e : Event) (n : ℕ) → step_out l e ≡ Some n
       → ((received l' e).refusal ≡ 0) × Mirrored (sent l e).lane (received l' e).lane × ((received l' e).order ≡ (sent l e).order)
   same_step e n q =
-      let f : step_in l' e ≡ To n = rw (w.state, their_sender, same_own e) (sent_taken l.state e.kind l.side (carries_own l e) n q) in
-      let a = sent_by l e (To n) q in
-      let b = received_by_lem l' e (To n) f in
+      let f : step_in l' e ≡ Some n = rw (w.state, their_sender, same_own e) (sent_taken l.state e.kind l.side (carries_own l e) n q) in
+      let a = sent_by l e (Some n) q in
+      let b = received_by_lem l' e (Some n) f in
       rw (a, b) (refl, record { ours = w.ours; theirs = w.theirs; state = refl; offered = rw w.offered refl; running = rw w.running refl }, rw (w.state, same_own e) refl)
 
   sent_step : (e : Event) → (sent l e).refusal ≡ 0
       → ((received l' e).refusal ≡ 0) × Mirrored (sent l e).lane (received l' e).lane × ((received l' e).order ≡ (sent l e).order)
   sent_step e z = go (step_out l e) refl
     where
-      go : (st : Step) → step_out l e ≡ st
+      go : (st : Option ℕ) → step_out l e ≡ st
           → ((received l' e).refusal ≡ 0) × Mirrored (sent l e).lane (received l' e).lane × ((received l' e).order ≡ (sent l e).order)
-      go (To n) q = same_step e n q
-      go NoTransition q = absurd (let x : 8 ≡ 0 = sym (ap (λ (v : Moved). v.refusal) (sent_by l e NoTransition q)) ∙ z in omega arith)
+      go (Some n) q = same_step e n q
+      go None q = absurd (let x : 8 ≡ 0 = sym (ap (λ (v : Moved). v.refusal) (sent_by l e None q)) ∙ z in omega arith)
 
 -- what was read names the board that was sent
 read_id : {s : Bytes} (m : Message) (texts : Bytes) {n : ℕ} {c : Checked} → ReadAs s m texts n c → refusal_of m texts ≡ 0 → id_of c.message ≡ id_of m

@@ -1,4 +1,5 @@
 -- T2.L2: in any run of calls, each refusal and each record is the one that document 01 makes of the record before; no call follows only the first message.
+use Rattle.std.specs.Prelude.{Option, Some, None}
 use mathlib.Core.Path.{◌≡◌, refl, sym, ap, subst, ◌∙◌}
 use mathlib.Core.List.{List, [], ◌∷◌}
 use mathlib.Core.Bool.{Bool, true, false}
@@ -19,8 +20,6 @@ use Rattle.lane.proofs.StepForStep.{charted}
 use Rattle.lane.specs.declared.Event.{Event}
 use Rattle.lane.specs.declared.Lane.{Lane}
 use Rattle.lane.specs.declared.Moved.{Moved}
-use Rattle.lane.specs.declared.chart.Step.{Step}
-use Rattle.lane.specs.declared.chart.Step.TheVariants.{To, NoTransition}
 use Rattle.message.specs.Checked.{Checks}
 use Rattle.message.specs.declared.checking.Checked.{Checked}
 use Rattle.message.specs.declared.cells.Message.{Message}
@@ -53,9 +52,9 @@ not_ending n k e f h = clash (sym h ∙ ap (λ (n : ℕ). among n (2 ∷ 3 ∷ 4
 received_number : (l : Lane) (i : Event) → (received l i).refusal ≡ numbered (step_in l i) ProtocolError
 received_number l i = go (step_in l i) refl
   where
-    go : (st : Step) → step_in l i ≡ st → (received l i).refusal ≡ numbered (step_in l i) ProtocolError
-    go (To n) e = ap (λ (v : Moved). v.refusal) (received_by_lem l i (To n) e) ∙ rw e refl
-    go NoTransition e = ap (λ (v : Moved). v.refusal) (received_by_lem l i NoTransition e) ∙ rw e refl
+    go : (st : Option ℕ) → step_in l i ≡ st → (received l i).refusal ≡ numbered (step_in l i) ProtocolError
+    go (Some n) e = ap (λ (v : Moved). v.refusal) (received_by_lem l i (Some n) e) ∙ rw e refl
+    go None e = ap (λ (v : Moved). v.refusal) (received_by_lem l i None e) ∙ rw e refl
 
 -- what the promise moves a lane by is the outcome
 outcome : (l : Lane) (c : Checked) (f : Carried) → all.Low c.refusal → Outcome l c f (moved_by l c.refusal (event_of c.message f)).refusal (moved_by l c.refusal (event_of c.message f)).lane
@@ -75,19 +74,19 @@ receiving_follows {l} {s} {old} {new} {r} p =
     (all.room p)
 
 -- the step of a message that may be sent, and of one that may not
-step_out_lem : (l : Lane) (m : Message) (texts : Bytes) → (sending.moved_by l m texts).refusal ≡ 0 → (x : ℕ) × (step_out l (event_sent m texts) ≡ To x)
+step_out_lem : (l : Lane) (m : Message) (texts : Bytes) → (sending.moved_by l m texts).refusal ≡ 0 → (x : ℕ) × (step_out l (event_sent m texts) ≡ Some x)
 step_out_lem l m texts z = go (step_out l (event_sent m texts)) refl
   where
-    go : (st : Step) → step_out l (event_sent m texts) ≡ st → (x : ℕ) × (step_out l (event_sent m texts) ≡ To x)
-    go (To x) e = (x, e)
-    go NoTransition e = absurd (let y : 8 ≡ 0 = sym (ap (λ (v : Moved). v.refusal) (sent_by l (event_sent m texts) NoTransition e)) ∙ z in omega arith)
+    go : (st : Option ℕ) → step_out l (event_sent m texts) ≡ st → (x : ℕ) × (step_out l (event_sent m texts) ≡ Some x)
+    go (Some x) e = (x, e)
+    go None e = absurd (let y : 8 ≡ 0 = sym (ap (λ (v : Moved). v.refusal) (sent_by l (event_sent m texts) None e)) ∙ z in omega arith)
 
-no_step_out : (l : Lane) (m : Message) (texts : Bytes) → ((sending.moved_by l m texts).refusal ≡ 0 → ⊥) → step_out l (event_sent m texts) ≡ NoTransition
+no_step_out : (l : Lane) (m : Message) (texts : Bytes) → ((sending.moved_by l m texts).refusal ≡ 0 → ⊥) → step_out l (event_sent m texts) ≡ None
 no_step_out l m texts n = go (step_out l (event_sent m texts)) refl
   where
-    go : (st : Step) → step_out l (event_sent m texts) ≡ st → step_out l (event_sent m texts) ≡ NoTransition
-    go (To x) e = absurd (n (ap (λ (v : Moved). v.refusal) (sent_by l (event_sent m texts) (To x) e)))
-    go NoTransition e = e
+    go : (st : Option ℕ) → step_out l (event_sent m texts) ≡ st → step_out l (event_sent m texts) ≡ None
+    go (Some x) e = absurd (n (ap (λ (v : Moved). v.refusal) (sent_by l (event_sent m texts) (Some x) e)))
+    go None e = e
 
 sending_follows : {l : Lane} {m : Message} {texts old new : Bytes} {r : Sent} → Sends l m texts old new r → Follows l r.refusal r.lane (sends m texts old)
 sending_follows {l} {m} {texts} {old} {new} {r} p = go (all.decides p)
@@ -108,12 +107,12 @@ step_for_step l [] r = tt
 step_for_step l (t ∷ ts) r = (follows l t.refusal t.lane t.call r.0, step_for_step t.lane ts r.1)
 
 -- the chart makes one record
-chart_only : (received : Bool) (l : Lane) (e : Event) (step : Step) {x y o : Lane} → ByChart received l e step x o → ByChart received l e step y o → x ≡ y
+chart_only : (received : Bool) (l : Lane) (e : Event) (step : Option ℕ) {x y o : Lane} → ByChart received l e step x o → ByChart received l e step y o → x ≡ y
 chart_only received l e step {x} {y} p q = go step refl
   where
-    go : (st : Step) → step ≡ st → x ≡ y
-    go (To n) e = p.moves n e ∙ sym (q.moves n e)
-    go NoTransition e = p.refuses e ∙ sym (q.refuses e)
+    go : (st : Option ℕ) → step ≡ st → x ≡ y
+    go (Some n) e = p.moves n e ∙ sym (q.moves n e)
+    go None e = p.refuses e ∙ sym (q.refuses e)
 
 -- a checked input has one outcome
 module _ {l : Lane} {c : Checked} {F : Carried} {n m : ℕ} {x y : Lane} where
@@ -142,16 +141,16 @@ unfolding sending.answer_of
 sends_as {l} {m} {texts} {old} (refuses z e f) = let a = ne_eqb (refusal_of m texts) 0 z in (e ∙ rw a refl, f ∙ rw a refl)
 sends_as {l} {m} {texts} {old} (may_not_case z q e f) =
     let a = eq-eqb (refusal_of m texts) 0 z in
-    let v = sent_by l (event_sent m texts) NoTransition q in
+    let v = sent_by l (event_sent m texts) None q in
     (e ∙ rw (a, v) refl, f ∙ rw (a, v) refl)
 sends_as {l} {m} {texts} {old} (no_room_case k z q h e f) =
     let a = eq-eqb (refusal_of m texts) 0 z in
-    let v = sent_by l (event_sent m texts) (To k) q in
+    let v = sent_by l (event_sent m texts) (Some k) q in
     let b = lt-leb (length (written_of m texts)) (length old) h in
     (e ∙ rw (a, v, b) refl, f ∙ rw (a, v, b) refl)
 sends_as {l} {m} {texts} {old} (goes k z q h e f) =
     let a = eq-eqb (refusal_of m texts) 0 z in
-    let v = sent_by l (event_sent m texts) (To k) q in
+    let v = sent_by l (event_sent m texts) (Some k) q in
     let b = le-leb (length (written_of m texts)) (length old) h in
     (e ∙ rw (a, v, b) refl, f.moves k q ∙ rw (a, v, b) refl)
 

@@ -1,4 +1,5 @@
 -- The theorems of receiving and sending, for a reader to find.
+use Rattle.std.specs.Prelude.{Option, Some, None}
 use mathlib.Core.Path.{◌≡◌, refl, sym, ap, subst, ◌∙◌}
 use mathlib.Core.List.{List, [], ◌∷◌, ◌++◌}
 use mathlib.Core.Bool.{Bool, true, false}
@@ -22,8 +23,6 @@ use Rattle.lane.proofs.IdsZero.{lost_ids_zero, received_ids_zero, sent_ids_zero}
 use Rattle.lane.specs.declared.Event.{Event}
 use Rattle.lane.specs.declared.Lane.{Lane}
 use Rattle.lane.specs.declared.Moved.{Moved}
-use Rattle.lane.specs.declared.chart.Step.{Step}
-use Rattle.lane.specs.declared.chart.Step.TheVariants.{To, NoTransition}
 use Rattle.table.specs.Table.{table, rows_of}
 use Rattle.table.specs.Says.{child_of, said_of, rows_for}
 use Rattle.message.specs.Checked.{Checks, ends, more, malformed, too_long}
@@ -138,9 +137,9 @@ Moves n = among n (0 ∷ 1 ∷ 2 ∷ 3 ∷ 4 ∷ 5 ∷ 6 ∷ 9 ∷ []) ≡ true
 pub received_refusal : (l : Lane) (e : Event) → ((received l e).refusal ≡ 0) ⊎ (received l e ≡ ended l 9)
 received_refusal l e = go (step_in l e) refl
   where
-    go : (st : Step) → step_in l e ≡ st → ((received l e).refusal ≡ 0) ⊎ (received l e ≡ ended l 9)
-    go (To n) q = inl (ap (λ (v : Moved). v.refusal) (received_by_lem l e (To n) q))
-    go NoTransition q = inr (received_by_lem l e NoTransition q)
+    go : (st : Option ℕ) → step_in l e ≡ st → ((received l e).refusal ≡ 0) ⊎ (received l e ≡ ended l 9)
+    go (Some n) q = inl (ap (λ (v : Moved). v.refusal) (received_by_lem l e (Some n) q))
+    go None q = inr (received_by_lem l e None q)
 
 pub low_moves : (n : ℕ) → Low n → Moves n
 low_moves n e = among_more n (0 ∷ 1 ∷ 2 ∷ 3 ∷ 4 ∷ 5 ∷ 6 ∷ []) (9 ∷ []) e

@@ -1,4 +1,5 @@
 -- A whole handover: whatever meets the promises of `send` and `receive`, with room, goes line by line as document 01 says; and such calls exist.
+use Rattle.std.specs.Prelude.{Some, None}
 use mathlib.Core.Path.{◌≡◌, refl, sym, ap, subst, ◌∙◌}
 use mathlib.Core.List.{List, [], ◌∷◌, ◌++◌}
 use mathlib.Core.Bool.{Bool, true, false}
@@ -26,7 +27,6 @@ use Rattle.lane.specs.declared.Event.{Event}
 use Rattle.lane.specs.declared.Lane.{Lane}
 use Rattle.lane.specs.declared.Moved.{Moved}
 use Rattle.lane.specs.declared.ids.Forecast.{Forecast}
-use Rattle.lane.specs.declared.chart.Step.TheVariants.{To}
 use Rattle.value.specs.declared.text.Words.TheVariants.{Absent as NoWords, Present as IsWords}
 use Rattle.table.specs.Table.{table}
 use Rattle.message.specs.Fields.{Field, a_words, a_whole, a_measure, a_guid, a_features}
@@ -93,14 +93,14 @@ all_go x (from_d y ∷ ys) (p ∷ ps) (h, hs) (m, w, e) =
 
 -- before the first line
 abbrev new : Line
-new = record { event = record { kind = Unknown; id = no_id; carries = false; forecast = no_forecast }; state = NotConnected; offered = no_id; running = no_id; forecast = no_forecast_case; order = NoOrder }
+new = record { event = record { kind = Unknown; id = no_id; forecast = None }; state = NotConnected; offered = no_id; running = no_id; forecast = no_forecast_case; order = NoOrder }
 
 -- the start, on both sides
 both : ℕ → Bytes → Lane
 both side id = record { side = side; state = Both; offered = id; running = no_id; forecast = no_forecast }
 
 start : Bytes → Event
-start id = record { kind = StartTransport; id = id; carries = false; forecast = no_forecast }
+start id = record { kind = StartTransport; id = id; forecast = None }
 
 start_sends : (id : Bytes) → sent (both D id) (start id) ≡ started (both D id) id Run
 unfolding both start
@@ -133,7 +133,7 @@ module _ (id : Bytes) where
   asked side forecast = record { side = side; state = Ready; offered = no_id; running = no_id; forecast = forecast }
 
   ready : Event
-  ready = record { kind = MachineReady; id = no_id; carries = true; forecast = told }
+  ready = record { kind = MachineReady; id = no_id; forecast = Some told }
 
   same_told : same_forecast (righted (righted told)) (righted told) ≡ true
   same_told = ap (λ (f : Forecast). same_forecast f (righted told)) (righted_again told) ∙ same_ids told told ∙ same_refl (forecast_bytes told)
@@ -141,13 +141,13 @@ module _ (id : Bytes) where
   ready_sends : sent (idle D (righted told)) ready ≡ record { refusal = 0; lane = asked D no_forecast; order = NoOrder }
   unfolding told idle asked ready next by_rows chart
   ready_sends =
-      sent_by (idle D (righted told)) ready (To Ready) refl
+      sent_by (idle D (righted told)) ready (Some Ready) refl
       ∙ ap (λ (b : Bool). record { refusal = 0; lane = asked D (pick b no_forecast (righted (righted told))); order = NoOrder }) same_told
 
   ready_takes : (received (idle U no_forecast) ready).lane ≡ asked U no_forecast
   unfolding told idle asked ready next by_rows chart righted
   ready_takes =
-      ap (λ (v : Moved). v.lane) (received_by_lem (idle U no_forecast) ready (To Ready) refl)
+      ap (λ (v : Moved). v.lane) (received_by_lem (idle U no_forecast) ready (Some Ready) refl)
       ∙ ap (asked U) (same_picked (same_forecast no_forecast (righted told)) no_forecast)
 
 changeover_leads : (id announced forecast : Bytes) → AllLead new (changeover id announced forecast)

@@ -8,7 +8,7 @@ use Rattle.grammar.specs.Bytes.{Bytes}
 use Rattle.message.specs.declared.cells.Message.{Message}
 use Rattle.meant.specs.Meant.{refusal_of}
 use Rattle.meant.specs.Written.{written_of}
-use Rattle.meant.specs.Events.{Carried, no_forecast_case, a_forecast, forecast_of, is_there, event_sent}
+use Rattle.meant.specs.Events.{Carried, no_forecast_case, a_forecast, forecast_of, forecast_told, event_sent}
 use Rattle.promises.specs.Receiving.{Receives}
 use Rattle.promises.specs.Sending.{Sends}
 use Rattle.promises.specs.declared.Received.{Received}
@@ -91,7 +91,7 @@ AllGo (from_d x ∷ xs) (p ∷ ps) = Goes D x p × AllGo xs ps
 
 abbrev line : ℕ → Bytes → Carried → ℕ → Bytes → Bytes → Carried → ℕ → Line
 line kind board said state offered running held order =
-    record { event = record { kind = kind; id = board; carries = is_there said; forecast = forecast_of said }; state = state; offered = offered; running = running; forecast = held; order = order }
+    record { event = record { kind = kind; id = board; forecast = forecast_told said }; state = state; offered = offered; running = running; forecast = held; order = order }
 
 -- one board from the first message of two new lanes to Idle: kind, board, ForecastId; state, offered and running id, kept ForecastId; order
 abbrev pub handover : Bytes → List Said

@@ -1,12 +1,10 @@
 -- Runs of calls on a lane.
-use Rattle.std.specs.Prelude.{◌≡◌, List, [], ◌∷◌, true, ℕ, ◌≤◌, ◌<◌, length}
+use Rattle.std.specs.Prelude.{◌≡◌, List, [], ◌∷◌, true, ℕ, ◌≤◌, ◌<◌, length, Option, Some, None}
 use Rattle.lane.specs.Names.{Accepted, MayNotBeSent, ProtocolError}
 use Rattle.lane.specs.Chart.{among}
 use Rattle.lane.specs.Record.{blank, step_in, step_out}
 use Rattle.lane.specs.StepForStep.{gets, sends as puts, Charted}
 use Rattle.lane.specs.declared.Lane.{Lane}
-use Rattle.lane.specs.declared.chart.Step.{Step}
-use Rattle.lane.specs.declared.chart.Step.TheVariants.{To, NoTransition}
 use Rattle.grammar.specs.Bytes.{Bytes}
 use Rattle.message.specs.Checked.{Checks}
 use Rattle.message.specs.declared.checking.Checked.{Checked}
@@ -32,9 +30,9 @@ pub data Makes (l : Lane) (n : ℕ) (l' : Lane) : Call → Type 0 where
   by_losing : n ≡ 0 → l' ≡ blank l → Makes l n l' loses
 
 -- "accepted" with a transition, and else the refusal
-abbrev pub numbered : Step → ℕ → ℕ
-numbered (To s) refusal = Accepted
-numbered NoTransition refusal = refusal
+abbrev pub numbered : Option ℕ → ℕ → ℕ
+numbered (Some s) refusal = Accepted
+numbered None refusal = refusal
 
 -- what a checked input, which carries the forecast f, makes of a lane, room put aside: the refusal n and the record l'
 pub data Outcome (l : Lane) (c : Checked) (f : Carried) (n : ℕ) (l' : Lane) : Type 0 where
@@ -52,9 +50,9 @@ pub data Follows (l : Lane) (n : ℕ) (l' : Lane) : Call → Type 0 where
   lacks : {s old : Bytes} (c : Checked) (f : Carried) (due : Bytes) (k : ℕ) (x : Lane) → Checks s c → Carries s (forecast_id c.message) f → Outcome l c f k x → Owes s c.message k due → length old < length due → n ≡ 7 → l' ≡ l → Follows l n l' (receives s old)
   -- "In sending, 4, 5, 6 in table order, then 8, then 7; every refusal keeps record and buffer."
   refuses : {m : Message} {texts old : Bytes} → (refusal_of m texts ≡ 0 → ⊥) → n ≡ refusal_of m texts → l' ≡ l → Follows l n l' (sends m texts old)
-  may_not_case : {m : Message} {texts old : Bytes} → refusal_of m texts ≡ 0 → step_out l (event_sent m texts) ≡ NoTransition → n ≡ MayNotBeSent → l' ≡ l → Follows l n l' (sends m texts old)
-  no_room_case : {m : Message} {texts old : Bytes} (x : ℕ) → refusal_of m texts ≡ 0 → step_out l (event_sent m texts) ≡ To x → length old < length (written_of m texts) → n ≡ 7 → l' ≡ l → Follows l n l' (sends m texts old)
-  goes : {m : Message} {texts old : Bytes} (x : ℕ) → refusal_of m texts ≡ 0 → step_out l (event_sent m texts) ≡ To x → length (written_of m texts) ≤ length old → n ≡ Accepted → Charted l (puts (event_sent m texts)) l' → Follows l n l' (sends m texts old)
+  may_not_case : {m : Message} {texts old : Bytes} → refusal_of m texts ≡ 0 → step_out l (event_sent m texts) ≡ None → n ≡ MayNotBeSent → l' ≡ l → Follows l n l' (sends m texts old)
+  no_room_case : {m : Message} {texts old : Bytes} (x : ℕ) → refusal_of m texts ≡ 0 → step_out l (event_sent m texts) ≡ Some x → length old < length (written_of m texts) → n ≡ 7 → l' ≡ l → Follows l n l' (sends m texts old)
+  goes : {m : Message} {texts old : Bytes} (x : ℕ) → refusal_of m texts ≡ 0 → step_out l (event_sent m texts) ≡ Some x → length (written_of m texts) ≤ length old → n ≡ Accepted → Charted l (puts (event_sent m texts)) l' → Follows l n l' (sends m texts old)
   -- "a lost connection brings it back there"
   lost : n ≡ Accepted → l' ≡ blank l → Follows l n l' loses
 

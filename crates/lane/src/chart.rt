@@ -1,8 +1,0 @@
-// What the chart answers.
-
-/// What a message does to the state.
-#[derive(Clone, Copy)]
-pub enum Step {
-    To(u8),
-    NoTransition,
-}
