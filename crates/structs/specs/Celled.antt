@@ -1,12 +1,10 @@
 -- One value of a message as its cell, as the code has it.
-use Rattle.std.specs.Prelude.{List, [], ◌∷◌, ◌++◌, ℕ, ◌+◌, ◌*◌, take, drop, replicate}
+use Rattle.value.specs.declared.text.Span.{Span}
+use Rattle.message.specs.declared.values.Decimal.{Decimal}
+use Rattle.std.specs.Prelude.{List, [], ◌∷◌, ◌++◌, ℕ, ◌+◌, ◌*◌, take, drop, replicate, Option}
 use Rattle.grammar.specs.Bytes.{Bytes}
-use Rattle.value.specs.declared.id.Guid.{Guid}
-use Rattle.value.specs.declared.text.Words.{Words}
 use Rattle.message.specs.Fields.{Field}
 use Rattle.message.specs.Cells.{NUMBERS, words_by, whole_by, measure_by, guid_by, features_by, cell_at, cell_of}
-use Rattle.message.specs.declared.values.Whole.{Whole}
-use Rattle.message.specs.declared.values.Measure.{Measure}
 use Rattle.message.specs.declared.values.Features.{Features}
 
 -- the cells in which nothing is there
@@ -14,19 +12,19 @@ abbrev pub zeros : List ℕ
 zeros = replicate NUMBERS 0
 
 -- what the cell i is
-abbrev pub words_at : List ℕ → ℕ → Words
+abbrev pub words_at : List ℕ → ℕ → Option Span
 words_at c i = words_by (cell_at c (3 * i)) (cell_at c (3 * i + 1)) (cell_at c (3 * i + 2))
 
-abbrev pub whole_at : List ℕ → ℕ → Whole
+abbrev pub whole_at : List ℕ → ℕ → Option ℕ
 whole_at c i = whole_by (cell_at c (3 * i)) (cell_at c (3 * i + 1))
 
-abbrev pub measure_at : List ℕ → ℕ → Measure
+abbrev pub measure_at : List ℕ → ℕ → Option Decimal
 measure_at c i = measure_by (cell_at c (3 * i)) (cell_at c (3 * i + 1)) (cell_at c (3 * i + 2))
 
-abbrev pub guid_at : List ℕ → ℕ → Bytes → Guid
+abbrev pub guid_at : List ℕ → ℕ → Bytes → Option Bytes
 guid_at c i id = guid_by (cell_at c (3 * i)) id
 
-abbrev pub features_at : List ℕ → ℕ → Features
+abbrev pub features_at : List ℕ → ℕ → Option Features
 features_at c i = features_by (cell_at c (3 * i)) (cell_at c (3 * i + 1))
 
 -- the numbers of the cell i replaced

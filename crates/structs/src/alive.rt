@@ -9,14 +9,13 @@ use crate::making::{cells_if, whole, words};
 use lane::Kind;
 use message::Message;
 use message::cells::NUMBERS;
-use message::values::Whole;
-use value::Words;
+use value::Span;
 
 /// The attributes of a CheckAlive, in table order.
 #[derive(Clone, Copy)]
 pub struct CheckAlive {
-    pub ping: Whole,
-    pub id: Words,
+    pub ping: Option<u64>,
+    pub id: Option<Span>,
 }
 
 /// What a CheckAlive says; of a message of another kind all is absent.

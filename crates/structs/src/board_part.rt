@@ -6,25 +6,25 @@ ghost use Rattle.structs.specs.Celled.{all_laid};
 use crate::laying::{put_measure, put_whole, put_words};
 use crate::making::{measure, whole, words};
 use message::cells::NUMBERS;
-use message::values::{Measure, Whole};
-use value::Words;
+use message::values::Decimal;
+use value::Span;
 
 /// A board's attributes, in table order.
 #[derive(Clone, Copy)]
 pub struct Board {
-    pub failed: Whole,
-    pub product: Words,
-    pub flipped: Whole,
-    pub top: Words,
-    pub bottom: Words,
-    pub length: Measure,
-    pub width: Measure,
-    pub thickness: Measure,
-    pub speed: Measure,
-    pub above: Measure,
-    pub below: Measure,
-    pub weight: Measure,
-    pub order: Words,
+    pub failed: Option<u64>,
+    pub product: Option<Span>,
+    pub flipped: Option<u64>,
+    pub top: Option<Span>,
+    pub bottom: Option<Span>,
+    pub length: Option<Decimal>,
+    pub width: Option<Decimal>,
+    pub thickness: Option<Decimal>,
+    pub speed: Option<Decimal>,
+    pub above: Option<Decimal>,
+    pub below: Option<Decimal>,
+    pub weight: Option<Decimal>,
+    pub order: Option<Span>,
 }
 
 /// What the cells from the i-th on say of the board.

@@ -10,17 +10,16 @@ use crate::making::{cells_if, guid, whole, words};
 use lane::Kind;
 use message::Message;
 use message::cells::NUMBERS;
-use message::values::Whole;
-use value::{Guid, Words};
+use value::Span;
 
 /// The attributes of a BoardAvailable, in table order.
 #[derive(Clone, Copy)]
 pub struct BoardAvailable {
-    pub id: Guid,
-    pub by: Words,
+    pub id: Option<[u8; 36]>,
+    pub by: Option<Span>,
     pub board: Board,
-    pub route: Whole,
-    pub batch: Words,
+    pub route: Option<u64>,
+    pub batch: Option<Span>,
 }
 
 /// What a BoardAvailable says; of a message of another kind all is absent.

@@ -10,16 +10,16 @@ use crate::making::{cells_if, guid, measure, words};
 use lane::Kind;
 use message::Message;
 use message::cells::NUMBERS;
-use message::values::Measure;
-use value::{Guid, Words};
+use message::values::Decimal;
+use value::Span;
 
 /// The attributes of a BoardForecast, in table order.
 #[derive(Clone, Copy)]
 pub struct BoardForecast {
-    pub forecast: Words,
-    pub until: Measure,
-    pub id: Guid,
-    pub by: Words,
+    pub forecast: Option<Span>,
+    pub until: Option<Decimal>,
+    pub id: Option<[u8; 36]>,
+    pub by: Option<Span>,
     pub board: Board,
 }
 

@@ -6,8 +6,8 @@ ghost use Rattle.message.specs.Messages.{bytes_in};
 ghost use Rattle.structs.specs.Celled.{placed, laid};
 
 use message::cells::NUMBERS;
-use message::values::{Features, Measure, Whole};
-use value::{Guid, Words};
+use message::values::{Decimal, Features};
+use value::Span;
 
 // The three numbers of the cell i.
 fn put(cells: [u64; NUMBERS], i: usize, there: u64, a: u64, b: u64) -> [u64; NUMBERS]
@@ -22,33 +22,33 @@ fn put(cells: [u64; NUMBERS], i: usize, there: u64, a: u64, b: u64) -> [u64; NUM
     cells
 }
 
-pub fn put_words(cells: [u64; NUMBERS], i: usize, w: Words) -> [u64; NUMBERS]
+pub fn put_words(cells: [u64; NUMBERS], i: usize, w: Option<Span>) -> [u64; NUMBERS]
     requires { i ≤ 23 }
     ensures { result ≡ laid i (a_words w) cells }
 {
     match w {
-        Words::Absent => put(cells, i, 0, 0, 0),
-        Words::Present(p) => put(cells, i, 1, p.start as u64, p.len as u64),
+        None => put(cells, i, 0, 0, 0),
+        Some(p) => put(cells, i, 1, p.start as u64, p.len as u64),
     }
 }
 
-pub fn put_whole(cells: [u64; NUMBERS], i: usize, w: Whole) -> [u64; NUMBERS]
+pub fn put_whole(cells: [u64; NUMBERS], i: usize, w: Option<u64>) -> [u64; NUMBERS]
     requires { i ≤ 23 }
     ensures { result ≡ laid i (a_whole w) cells }
 {
     match w {
-        Whole::Absent => put(cells, i, 0, 0, 0),
-        Whole::Present(n) => put(cells, i, 1, n, 0),
+        None => put(cells, i, 0, 0, 0),
+        Some(n) => put(cells, i, 1, n, 0),
     }
 }
 
-pub fn put_measure(cells: [u64; NUMBERS], i: usize, w: Measure) -> [u64; NUMBERS]
+pub fn put_measure(cells: [u64; NUMBERS], i: usize, w: Option<Decimal>) -> [u64; NUMBERS]
     requires { i ≤ 23 }
     ensures { result ≡ laid i (a_measure w) cells }
 {
     match w {
-        Measure::Absent => put(cells, i, 0, 0, 0),
-        Measure::Present(n, d) => put(cells, i, 1, n, d),
+        None => put(cells, i, 0, 0, 0),
+        Some(d) => put(cells, i, 1, d.millionths, d.decimals),
     }
 }
 
@@ -61,32 +61,34 @@ fn flag(b: bool) -> u64
     0
 }
 
-pub fn put_guid(cells: [u64; NUMBERS], i: usize, g: Guid) -> [u64; NUMBERS]
+pub fn put_guid(cells: [u64; NUMBERS], i: usize, g: Option<[u8; 36]>) -> [u64; NUMBERS]
     requires { i ≤ 23 }
     ensures { result ≡ laid i (a_guid g) cells }
 {
-    put(cells, i, flag(g.there), 0, 0)
+    match g {
+        None => put(cells, i, 0, 0, 0),
+        Some(_) => put(cells, i, 1, 0, 0),
+    }
 }
 
-pub fn put_features(cells: [u64; NUMBERS], i: usize, f: Features) -> [u64; NUMBERS]
+pub fn put_features(cells: [u64; NUMBERS], i: usize, f: Option<Features>) -> [u64; NUMBERS]
     requires { i ≤ 23 }
     ensures { result ≡ laid i (a_features f) cells }
 {
-    if f.there {
-        let a = flag(f.forecast);
-        let b = flag(f.query);
-        let c = flag(f.send);
-        return put(cells, i, 1, a + (2 * b + 4 * c), 0);
+    match f {
+        None => put(cells, i, 0, 0, 0),
+        Some(f) => {
+            let a = flag(f.forecast);
+            let b = flag(f.query);
+            let c = flag(f.send);
+            put(cells, i, 1, a + (2 * b + 4 * c), 0)
+        }
     }
-    put(cells, i, 0, 0, 0)
 }
 
 /// The bytes of an id; zeros if it is absent.
-pub fn bytes_in(g: Guid) -> [u8; 36]
+pub fn bytes_in(g: Option<[u8; 36]>) -> [u8; 36]
     ensures { result ≡ bytes_in g }
 {
-    if g.there {
-        return g.bytes;
-    }
-    [0u8; 36]
+    g.unwrap_or([0u8; 36])
 }

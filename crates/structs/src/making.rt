@@ -5,8 +5,8 @@ ghost use Rattle.structs.specs.Celled.{zeros, words_at, whole_at, measure_at, gu
 
 use message::Message;
 use message::cells::NUMBERS;
-use message::values::{Features, Measure, Whole};
-use value::{Guid, Span, Words};
+use message::values::{Decimal, Features};
+use value::Span;
 
 /// The cells of a message, if it is of the wanted kind; else zeros.
 pub fn cells_if(wanted: bool, m: Message) -> [u64; NUMBERS]
@@ -18,56 +18,57 @@ pub fn cells_if(wanted: bool, m: Message) -> [u64; NUMBERS]
     [0u64; NUMBERS]
 }
 
-pub fn words(cells: [u64; NUMBERS], i: usize) -> Words
+#[tactic(auto, unfolding(message::specs::Cells::words_by))]
+pub fn words(cells: [u64; NUMBERS], i: usize) -> Option<Span>
     requires { i ≤ 23 }
     ensures { result ≡ words_at cells i }
 {
     let at = 3 * i;
     if cells[at] == 0 {
-        return Words::Absent;
+        return None;
     }
-    Words::Present(Span {
+    Some(Span {
         start: cells[at + 1] as usize,
         len: cells[at + 2] as usize,
     })
 }
 
-pub fn whole(cells: [u64; NUMBERS], i: usize) -> Whole
+#[tactic(auto, unfolding(message::specs::Cells::whole_by))]
+pub fn whole(cells: [u64; NUMBERS], i: usize) -> Option<u64>
     requires { i ≤ 23 }
     ensures { result ≡ whole_at cells i }
 {
     let at = 3 * i;
     if cells[at] == 0 {
-        return Whole::Absent;
+        return None;
     }
-    Whole::Present(cells[at + 1])
+    Some(cells[at + 1])
 }
 
-pub fn measure(cells: [u64; NUMBERS], i: usize) -> Measure
+#[tactic(auto, unfolding(message::specs::Cells::measure_by))]
+pub fn measure(cells: [u64; NUMBERS], i: usize) -> Option<Decimal>
     requires { i ≤ 23 }
     ensures { result ≡ measure_at cells i }
 {
     let at = 3 * i;
     if cells[at] == 0 {
-        return Measure::Absent;
+        return None;
     }
-    Measure::Present(cells[at + 1], cells[at + 2])
+    Some(Decimal {
+        millionths: cells[at + 1],
+        decimals: cells[at + 2],
+    })
 }
 
-pub fn guid(cells: [u64; NUMBERS], i: usize, id: [u8; 36]) -> Guid
+#[tactic(auto, unfolding(message::specs::Cells::guid_by))]
+pub fn guid(cells: [u64; NUMBERS], i: usize, id: [u8; 36]) -> Option<[u8; 36]>
     requires { i ≤ 23 }
     ensures { result ≡ guid_at cells i id }
 {
     if cells[3 * i] == 0 {
-        return Guid {
-            there: false,
-            bytes: [0u8; 36],
-        };
+        return None;
     }
-    Guid {
-        there: true,
-        bytes: id,
-    }
+    Some(id)
 }
 
 fn bit(n: u64) -> bool
@@ -76,17 +77,19 @@ fn bit(n: u64) -> bool
     n % 2 != 0
 }
 
-pub fn features(cells: [u64; NUMBERS], i: usize) -> Features
+#[tactic(auto, unfolding(message::specs::Cells::features_by))]
+pub fn features(cells: [u64; NUMBERS], i: usize) -> Option<Features>
     requires { i ≤ 23 }
     ensures { result ≡ features_at cells i }
 {
     let at = 3 * i;
-    let there = cells[at] != 0;
-    let bits = cells[at + 1];
-    Features {
-        there: there,
-        forecast: there & bit(bits),
-        query: there & bit(bits / 2),
-        send: there & bit(bits / 4),
+    if cells[at] == 0 {
+        return None;
     }
+    let bits = cells[at + 1];
+    Some(Features {
+        forecast: bit(bits),
+        query: bit(bits / 2),
+        send: bit(bits / 4),
+    })
 }

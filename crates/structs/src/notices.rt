@@ -9,15 +9,14 @@ use crate::making::{cells_if, whole, words};
 use lane::Kind;
 use message::Message;
 use message::cells::NUMBERS;
-use message::values::Whole;
-use value::Words;
+use value::Span;
 
 /// The attributes of a Notification, in table order.
 #[derive(Clone, Copy)]
 pub struct Notification {
-    pub code: Whole,
-    pub severity: Whole,
-    pub description: Words,
+    pub code: Option<u64>,
+    pub severity: Option<u64>,
+    pub description: Option<Span>,
 }
 
 // Outside it is called `notification`; here that would differ from the struct's name in case only.

@@ -9,14 +9,13 @@ use crate::making::{cells_if, whole, words};
 use lane::Kind;
 use message::Message;
 use message::cells::NUMBERS;
-use message::values::Whole;
-use value::Words;
+use value::Span;
 
 /// The attributes of a MachineReady, in table order.
 #[derive(Clone, Copy)]
 pub struct MachineReady {
-    pub failed: Whole,
-    pub forecast: Words,
+    pub failed: Option<u64>,
+    pub forecast: Option<Span>,
 }
 
 /// What a MachineReady says; of a message of another kind all is absent.

@@ -9,16 +9,16 @@ use crate::making::{cells_if, features, whole, words};
 use lane::Kind;
 use message::Message;
 use message::cells::NUMBERS;
-use message::values::{Features, Whole};
-use value::Words;
+use message::values::Features;
+use value::Span;
 
 /// The attributes of a ServiceDescription, in table order.
 #[derive(Clone, Copy)]
 pub struct ServiceDescription {
-    pub machine: Words,
-    pub lane: Whole,
-    pub version: Words,
-    pub features: Features,
+    pub machine: Option<Span>,
+    pub lane: Option<u64>,
+    pub version: Option<Span>,
+    pub features: Option<Features>,
 }
 
 /// What a ServiceDescription says; of a message of another kind all is absent.

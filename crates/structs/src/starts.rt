@@ -9,14 +9,13 @@ use crate::making::{cells_if, guid, measure};
 use lane::Kind;
 use message::Message;
 use message::cells::NUMBERS;
-use message::values::Measure;
-use value::Guid;
+use message::values::Decimal;
 
 /// The attributes of a StartTransport, in table order.
 #[derive(Clone, Copy)]
 pub struct StartTransport {
-    pub id: Guid,
-    pub speed: Measure,
+    pub id: Option<[u8; 36]>,
+    pub speed: Option<Decimal>,
 }
 
 /// What a StartTransport says; of a message of another kind all is absent.

@@ -9,14 +9,12 @@ use crate::making::{cells_if, guid, whole};
 use lane::Kind;
 use message::Message;
 use message::cells::NUMBERS;
-use message::values::Whole;
-use value::Guid;
 
 /// The attributes of both, in table order.
 #[derive(Clone, Copy)]
 pub struct Transfer {
-    pub state: Whole,
-    pub id: Guid,
+    pub state: Option<u64>,
+    pub id: Option<[u8; 36]>,
 }
 
 // Outside it is called `transfer`; here that would differ from the struct's name in case only.
