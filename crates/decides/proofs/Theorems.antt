@@ -1,4 +1,6 @@
 -- What the promise of `decided` determines, and that the row it names is the first that is refused.
+use Rattle.std.specs.Prelude.{Option}
+use Rattle.value.specs.declared.text.Span.{Span}
 use mathlib.Core.Path.{◌≡◌, refl, sym, ap, subst, ◌∙◌}
 use mathlib.Core.List.{List, [], ◌∷◌, ◌++◌, append_assoc}
 use Prim.Native.Nat.{ℕ, zero, suc, ◌+◌, ◌-◌}
@@ -11,7 +13,6 @@ use Rattle.grammar.specs.Message.{Layout, Laid, read_layout}
 use Rattle.grammar.specs.Answer.{Ends, Answer as PaperAnswer, Answers, ends_at, more_from, malformed_at, too_long_from}
 use Rattle.model.proofs.Cuts.{piece_behind}
 use Rattle.model.proofs.Theorems.{one_layout, answers_only}
-use Rattle.value.specs.declared.text.Words.{Words}
 use Rattle.table.specs.Table.{Row, Entry}
 use Rattle.table.specs.Says.{refusal_in, tried, first, refusal_of, child_of, rows_for, said_in}
 use Rattle.message.specs.Checked.{places_in, ChecksBy, ends as ends_so, more as more_so, malformed as malformed_so, too_long as too_long_so}
@@ -47,7 +48,7 @@ decided_only {by} {s} {r} {r'} p q =
     same_result by s a y (subst (λ (b : PaperAnswer). ResultOf by s b r') (sym (answers_only s a a' x x')) y')
 
 -- what rules over rows refuses as they do
-pub ruled_refusal : (i : ℕ) (l : List Row) (place : Bytes → Words) (t : Tree) → (first_refused i l place t).refusal ≡ refusal_of l t
+pub ruled_refusal : (i : ℕ) (l : List Row) (place : Bytes → Option Span) (t : Tree) → (first_refused i l place t).refusal ≡ refusal_of l t
 unfolding first_refused refusal_of
 ruled_refusal i [] place t = refl
 ruled_refusal i (r ∷ l) place t = go (refusal_in (tried r t)) (ruled_refusal (suc i) l place t)
@@ -89,7 +90,7 @@ decided_as_checked {by} {s} {c} {r} p q =
     same_refusal by s a y (subst (λ (b : PaperAnswer). Refuses by s b r.refusal) (sym (answers_only s a a' x x')) y')
 
 -- the row that rules: none before it is refused, it is, and the value is its own
-pub record First (l : List Row) (place : Bytes → Words) (t : Tree) (x : Ruling) : Type 0 where
+pub record First (l : List Row) (place : Bytes → Option Span) (t : Tree) (x : Ruling) : Type 0 where
   pub before : List Row
   pub row : Row
   pub behind : List Row
@@ -100,7 +101,7 @@ pub record First (l : List Row) (place : Bytes → Words) (t : Tree) (x : Ruling
   pub value : x.value ≡ value_in row.form (place row.name)
 
 -- with the numbers counted from i
-record FirstFrom (i : ℕ) (l : List Row) (place : Bytes → Words) (t : Tree) (x : Ruling) : Type 0 where
+record FirstFrom (i : ℕ) (l : List Row) (place : Bytes → Option Span) (t : Tree) (x : Ruling) : Type 0 where
   before : List Row
   row : Row
   behind : List Row
@@ -110,7 +111,7 @@ record FirstFrom (i : ℕ) (l : List Row) (place : Bytes → Words) (t : Tree) (
   refused : refusal_in (tried row t) ≡ x.refusal
   value : x.value ≡ value_in row.form (place row.name)
 
-first_from : (i : ℕ) (l : List Row) (place : Bytes → Words) (t : Tree) → (refusal_of l t ≡ 0 → ⊥) → FirstFrom i l place t (first_refused i l place t)
+first_from : (i : ℕ) (l : List Row) (place : Bytes → Option Span) (t : Tree) → (refusal_of l t ≡ 0 → ⊥) → FirstFrom i l place t (first_refused i l place t)
 unfolding first_refused refusal_of
 first_from i [] place t h = absurd (h refl)
 first_from i (r ∷ l) place t h = go (refusal_in (tried r t)) refl (first_from (suc i) l place t) h
@@ -121,7 +122,7 @@ first_from i (r ∷ l) place t h = go (refusal_in (tried r t)) refl (first_from 
     go (suc n) e on h = record { before = []; row = r; behind = l; rows = refl; number = omega arith; passed = refl; refused = e; value = refl }
 
 -- where rows refuse, the row that rules is the first that does
-pub first_decides : (l : List Row) (place : Bytes → Words) (t : Tree) → (refusal_of l t ≡ 0 → ⊥) → First l place t (first_refused 0 l place t)
+pub first_decides : (l : List Row) (place : Bytes → Option Span) (t : Tree) → (refusal_of l t ≡ 0 → ⊥) → First l place t (first_refused 0 l place t)
 first_decides l place t h = let x = first_from 0 l place t h in record { before = x.before; row = x.row; behind = x.behind; rows = x.rows; number = let y = x.number in omega arith; passed = x.passed; refused = x.refused; value = x.value }
 
 -- the message that ends in s ends in s with bytes behind it, and has the same bytes

@@ -13,14 +13,14 @@ use reads::find::find;
 use reads::trying::try_row;
 use rows::data::{NAMES, NUMBERS, Row, name_at, row_at, rows_of};
 use tags::attributes::PLACES;
-use value::Words;
+use value::Span;
 
 /// A row that decided: its refusal, its number among the rows of its kind, and the raw value of its attribute. Zeros if none did.
 #[derive(Clone, Copy)]
 pub struct Ruling {
     pub refusal: u8,
     pub row: usize,
-    pub value: Words,
+    pub value: Option<Span>,
 }
 
 /// What decided over a message: the refusal and the kind that checking says; of 4, 5 and 6 the row, counted from 0 in table order, and where its
@@ -30,7 +30,7 @@ pub struct Decision {
     pub refusal: u8,
     pub kind: u8,
     pub row: usize,
-    pub value: Words,
+    pub value: Option<Span>,
 }
 
 // No row decided.
@@ -40,7 +40,7 @@ fn none() -> Ruling
     Ruling {
         refusal: 0,
         row: 0,
-        value: Words::Absent,
+        value: None,
     }
 }
 
@@ -52,7 +52,7 @@ fn unread(refusal: u8) -> Decision
         refusal: refusal,
         kind: 0,
         row: 0,
-        value: Words::Absent,
+        value: None,
     }
 }
 
@@ -69,13 +69,13 @@ fn made(kind: u8, x: Ruling) -> Decision
 }
 
 // Where the raw value of a row's attribute stands; a child has none.
-fn value_of(s: &[u8], base: usize, table: &[u16], count: usize, names: &[u8], row: Row) -> Words
+fn value_of(s: &[u8], base: usize, table: &[u16], count: usize, names: &[u8], row: Row) -> Option<Span>
     requires { Held s.now base table.now count × (names.now ≡ letters) × Sound row }
     ensures { Stands s.now base table.now count row result }
 {
     let form = row.form;
     if form == 0 {
-        return Words::Absent;
+        return None;
     }
     let name = name_at(names, row.line as usize, row.len as usize);
     find(s, base, table, count, 0, name)

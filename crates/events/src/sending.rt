@@ -5,7 +5,6 @@ ghost use Rattle.events.specs.Says.{Given};
 
 use crate::named::{LONGEST, forecast_words, kept};
 use lane::{Event, Forecast};
-use value::Words;
 
 fn without(kind: u8, id: [u8; 36]) -> Event
     ensures { result ≡ event_with kind id no_forecast_case }
@@ -23,7 +22,7 @@ pub fn sent_event(kind: u8, cells: &[u64], id: [u8; 36], texts: &[u8]) -> Event
     ensures { Given texts.now kind cells.now id result }
 {
     let w = forecast_words(kind, cells);
-    let Words::Present(p) = w else {
+    let Some(p) = w else {
         return without(kind, id);
     };
     let start = p.start;

@@ -3,7 +3,7 @@ ghost use Rattle.std.specs.Prelude.{◌<◌};
 ghost use Rattle.reads.specs.Held.{Held, Found, Called, Lies};
 
 use rows::same::same;
-use value::{Span, Words};
+use value::Span;
 
 // Whether the attribute i has that name.
 fn is_named(s: &[u8], base: usize, table: &[u16], count: usize, i: usize, name: &[u8]) -> bool
@@ -16,20 +16,20 @@ fn is_named(s: &[u8], base: usize, table: &[u16], count: usize, i: usize, name: 
 }
 
 // Where the raw value of the attribute i stands.
-fn value_at(s: &[u8], base: usize, table: &[u16], count: usize, i: usize) -> Words
+fn value_at(s: &[u8], base: usize, table: &[u16], count: usize, i: usize) -> Option<Span>
     requires { Held s.now base table.now count × (i < count) }
     ensures { Lies base table.now i result }
 {
     let start = base + (table[4 * i + 2] as usize);
     let end = base + (table[4 * i + 3] as usize);
-    Words::Present(Span {
+    Some(Span {
         start: start,
         len: end - start,
     })
 }
 
 // The same as find, from the first attribute on.
-fn search(s: &[u8], base: usize, table: &[u16], count: usize, name: &[u8]) -> Words
+fn search(s: &[u8], base: usize, table: &[u16], count: usize, name: &[u8]) -> Option<Span>
     requires { Held s.now base table.now count }
     ensures { Found s.now base table.now count name.now result }
 {
@@ -40,12 +40,12 @@ fn search(s: &[u8], base: usize, table: &[u16], count: usize, name: &[u8]) -> Wo
         }
         i += 1;
     }
-    Words::Absent
+    None
 }
 
 /// Where the raw value of the attribute of that name stands. The table has four places for each attribute, counted from base: from where to
 /// where its name stands, and its raw value. The attribute `guess` is looked at first: most tags have their attributes in the order of the rows.
-pub fn find(s: &[u8], base: usize, table: &[u16], count: usize, guess: usize, name: &[u8]) -> Words
+pub fn find(s: &[u8], base: usize, table: &[u16], count: usize, guess: usize, name: &[u8]) -> Option<Span>
     requires { Held s.now base table.now count }
     ensures { Found s.now base table.now count name.now result }
 {

@@ -1,6 +1,5 @@
 // What a row says.
-ghost use Rattle.std.specs.Prelude.{◌≡◌, [], ◌∷◌, eqb};
-ghost use Rattle.value.specs.declared.text.Words.TheVariants.{Present};
+ghost use Rattle.std.specs.Prelude.{◌≡◌, [], ◌∷◌, eqb, Some};
 ghost use Rattle.message.specs.Cells.{words_cell};
 ghost use Rattle.reads.specs.Kept.{as_cell, lacking, carried_by};
 
@@ -27,7 +26,7 @@ pub fn number(refusal: u8, there: u64, a: u64) -> Tried
 
 /// A value that is told by its place.
 pub fn span(refusal: u8, start: usize, len: usize) -> Tried
-    ensures { result ≡ as_cell refusal (words_cell (Present (record { start = start; len = len }))) }
+    ensures { result ≡ as_cell refusal (words_cell (Some (record { start = start; len = len }))) }
 {
     Tried {
         refusal: refusal,

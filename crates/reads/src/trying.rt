@@ -8,7 +8,6 @@ use crate::find::find;
 use crate::judge::judged;
 use crate::tried::{Tried, carried, missing};
 use rows::data::{Row, name_at};
-use value::Words;
 
 /// A row tried: its attribute, for which the attribute `guess` is looked at first; or its child, which was looked for before.
 pub fn try_row(
@@ -30,7 +29,7 @@ pub fn try_row(
     }
     let name = name_at(names, row.line as usize, row.len as usize);
     let w = find(s, base, table, count, guess, name);
-    let Words::Present(p) = w else {
+    let Some(p) = w else {
         return missing(row.need);
     };
     let start = p.start;
