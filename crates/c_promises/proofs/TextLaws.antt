@@ -1,19 +1,20 @@
 -- An answer that is known tells its numbers, and no second numbers and scratch satisfy the promise of `tryphomel_text`.
+use Rattle.std.specs.Prelude.{Option}
+use Rattle.value.specs.declared.text.Span.{Span}
 use mathlib.Core.Path.{◌≡◌, refl, sym, ap, subst, ◌∙◌}
 use Prim.Native.Nat.{ℕ}
 use Rattle.grammar.specs.Bytes.{Bytes}
 use Rattle.value.specs.Asking.{Told, paper, TextSays}
 use Rattle.value.proofs.Only.{says_only}
-use Rattle.value.specs.declared.text.Words.{Words}
 use Rattle.value.specs.declared.text.TextAt.{TextAt}
 use Rattle.message.specs.Cells.{words_by}
 use Rattle.c_promises.specs.Texts.{side_of, at_of, count_of, TextTold}
 
-pub text_told : (s : Bytes) (there start len : ℕ) (old new : Bytes) (t : Words) (r a : TextAt) → t ≡ words_by there start len → r ≡ a → TextSays s t old new (paper r) → TextTold s there start len old new (paper a).number (side_of (paper a).place) (at_of (paper a).place) (count_of (paper a).place)
+pub text_told : (s : Bytes) (there start len : ℕ) (old new : Bytes) (t : Option Span) (r a : TextAt) → t ≡ words_by there start len → r ≡ a → TextSays s t old new (paper r) → TextTold s there start len old new (paper a).number (side_of (paper a).place) (at_of (paper a).place) (count_of (paper a).place)
 text_told s there start len old new t r a e f p =
     record {
       told = paper a;
-      says = subst (λ (x : TextAt). TextSays s (words_by there start len) old new (paper x)) f (subst (λ (x : Words). TextSays s x old new (paper r)) e p);
+      says = subst (λ (x : TextAt). TextSays s (words_by there start len) old new (paper x)) f (subst (λ (x : Option Span). TextSays s x old new (paper r)) e p);
       refuses = refl;
       sides = refl;
       ats = refl;

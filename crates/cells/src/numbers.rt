@@ -4,7 +4,7 @@ ghost use Rattle.message.specs.Cells.{cell_at, words_by};
 ghost use Rattle.message.specs.Messages.{at_most, blank as blankOf};
 
 use message::Message;
-use value::{Span, Words};
+use value::Span;
 
 /// A kind is a byte: a larger number counts as the largest, which is none.
 pub fn kind_from(n: u64) -> u8
@@ -38,13 +38,14 @@ pub fn clear(cells: &mut [u64])
 }
 
 /// A text that is there, or not.
-pub fn text_from(there: u64, start: u64, len: u64) -> Words
+#[tactic(auto, unfolding(message::specs::Cells::words_by))]
+pub fn text_from(there: u64, start: u64, len: u64) -> Option<Span>
     ensures { result ≡ words_by there start len }
 {
     if there == 0 {
-        return Words::Absent;
+        return None;
     }
-    Words::Present(Span {
+    Some(Span {
         start: start as usize,
         len: len as usize,
     })

@@ -1,4 +1,6 @@
 -- The loop over the rows, and from an outline to what decides over the one reading.
+use Rattle.std.specs.Prelude.{Option, None}
+use Rattle.value.specs.declared.text.Span.{Span}
 use mathlib.Core.Path.{◌≡◌, refl, sym, ap, subst, ◌∙◌}
 use mathlib.Core.List.{List}
 use mathlib.Core.Bool.{Bool, true, false, cond}
@@ -18,8 +20,6 @@ use Rattle.grammar.specs.Message.{read_layout}
 use Rattle.reader.specs.Answer.{Outlined}
 use Rattle.reader.specs.declared.answer.Answer.TheVariants.{Ends, More, Malformed, TooLong}
 use Rattle.reader.specs.declared.answer.Outline.{Outline}
-use Rattle.value.specs.declared.text.Words.{Words}
-use Rattle.value.specs.declared.text.Words.TheVariants.{Absent}
 use Rattle.table.specs.Table.{Row, words, some_words, whole, guid, version, positive, features, rows_of}
 use Rattle.table.specs.Theorems.{rows_table}
 use Rattle.table.specs.Says.{child_of, children_of, said_of}
@@ -39,12 +39,12 @@ use Rattle.decides.specs.declared.Ruling.{Ruling}
 use Rattle.decides.specs.declared.Decision.{Decision}
 
 -- a child has no value
-pub child_stands : {s : Bytes} {base : ℕ} {table : List ℕ} {count : ℕ} (c : Coded) {r : Words} → c.form ≡ 0 → r ≡ Absent → Stands s base table count c r
+pub child_stands : {s : Bytes} {base : ℕ} {table : List ℕ} {count : ℕ} (c : Coded) {r : Option Span} → c.form ≡ 0 → r ≡ None → Stands s base table count c r
 unfolding value_in
 child_stands c e q = record { says = λ h. q ∙ sym (ap (λ (b : Bool). value_in (cond b features (attribute_form c.form c.low c.high)) (place h (name_at c.line c.len))) (eq-eqb c.form 0 e)) }
 
 -- of the other forms it is that of the attribute
-attribute_value : (k lo hi : ℕ) (w : Words) → value_in (attribute_form k lo hi) w ≡ w
+attribute_value : (k lo hi : ℕ) (w : Option Span) → value_in (attribute_form k lo hi) w ≡ w
 unfolding value_in
 attribute_value k lo hi w = go (eqb k 1) (eqb k 2) (eqb k 3) (eqb k 4) (eqb k 5)
   where
@@ -56,7 +56,7 @@ attribute_value k lo hi w = go (eqb k 1) (eqb k 2) (eqb k 3) (eqb k 4) (eqb k 5)
     go false false false false true = refl
     go false false false false false = refl
 
-pub attribute_stands : {s : Bytes} {base : ℕ} {table : List ℕ} {count : ℕ} (c : Coded) {n : Bytes} {r : Words} → (c.form ≡ 0 → ⊥) → n ≡ name_at c.line c.len → Found s base table count n r → Stands s base table count c r
+pub attribute_stands : {s : Bytes} {base : ℕ} {table : List ℕ} {count : ℕ} (c : Coded) {n : Bytes} {r : Option Span} → (c.form ≡ 0 → ⊥) → n ≡ name_at c.line c.len → Found s base table count n r → Stands s base table count c r
 attribute_stands {s} {base} {table} {count} c {n} {r} other q found = record { says = λ h. (subst (λ (n : Bytes). Found s base table count n r) q found).says h ∙ sym (ap (λ (b : Bool). value_in (cond b features (attribute_form c.form c.low c.high)) (place h (name_at c.line c.len))) (ne_eqb c.form 0 other) ∙ attribute_value c.form c.low c.high (place h (name_at c.line c.len))) }
 
 -- no row before the i-th is refused: the rows from it on rule as all do
@@ -64,11 +64,11 @@ pub record Tried-so-far (s : Bytes) (base : ℕ) (table : List ℕ) (count : ℕ
   pub upto : i ≤ n
   pub rules : (h : Held s base table count) (m : Bytes) (f : Forest) → Fed found from n f → first_refused i (rows_from (from + i) (n - i)) (place h) (tree m (pairs h) f) ≡ first_refused 0 (rows_from from n) (place h) (tree m (pairs h) f)
 
-ruled_zero : (n i : ℕ) (w : Words) (x : Option Ruling) → n ≡ 0 → ruled_by n i w x ≡ x
+ruled_zero : (n i : ℕ) (w : Option Span) (x : Option Ruling) → n ≡ 0 → ruled_by n i w x ≡ x
 ruled_zero zero i w x e = refl
 ruled_zero (suc n) i w x e = absurd (omega arith)
 
-ruled_some : (n i : ℕ) (w : Words) (x : Option Ruling) → (n ≡ 0 → ⊥) → ruled_by n i w x ≡ Some (record { refusal = n; row = i; value = w })
+ruled_some : (n i : ℕ) (w : Option Span) (x : Option Ruling) → (n ≡ 0 → ⊥) → ruled_by n i w x ≡ Some (record { refusal = n; row = i; value = w })
 ruled_some zero i w x e = absurd (e refl)
 ruled_some (suc n) i w x e = refl
 
@@ -103,9 +103,9 @@ module _ (s : Bytes) (base : ℕ) (table : List ℕ) (count : ℕ) (found : Opti
     pub rule_goes_on : t.refusal ≡ 0 → Tried-so-far s base table count found from n (i + 1)
     rule_goes_on e = record { upto = omega arith; rules = λ k m f z. (let a : i + 1 ≡ suc i = omega arith in ap (λ (j : ℕ). first_refused j (rows_from (from + (i + 1)) (n - (i + 1))) (place k) (tree m (pairs k) f)) a ∙ sym (ruled_zero t.refusal i (value_in line.form (place k line.name)) (first_refused (suc i) (rows_from (from + (i + 1)) (n - (i + 1))) (place k) (tree m (pairs k) f)) e) ∙ at_row k m f z) }
 
-    pub rule_found : {r : Option Ruling} {w : Words} (sort : Sort) → rows_of sort.kind ≡ rows_from from n → ((f : Forest) → Sorted sort f → Fed found from n f) → (t.refusal ≡ 0 → ⊥) → Stands s base table count (coded_at (from + i)) w → r ≡ Some (record { refusal = t.refusal; row = i; value = w }) → Rules s base table count sort r
+    pub rule_found : {r : Option Ruling} {w : Option Span} (sort : Sort) → rows_of sort.kind ≡ rows_from from n → ((f : Forest) → Sorted sort f → Fed found from n f) → (t.refusal ≡ 0 → ⊥) → Stands s base table count (coded_at (from + i)) w → r ≡ Some (record { refusal = t.refusal; row = i; value = w }) → Rules s base table count sort r
     unfolding line
-    rule_found {r} {w} sort e fed some stands q = record { says = λ k m f z. q ∙ ap (λ (w : Words). Some (record { refusal = t.refusal; row = i; value = w })) (stands.says k) ∙ sym (ruled_some t.refusal i (value_in line.form (place k line.name)) (first_refused (suc i) (rows_from (from + (i + 1)) (n - (i + 1))) (place k) (tree m (pairs k) f)) some) ∙ at_row k m f (fed f z) ∙ ap (λ (l : List Row). first_refused 0 l (place k) (tree m (pairs k) f)) (sym e) }
+    rule_found {r} {w} sort e fed some stands q = record { says = λ k m f z. q ∙ ap (λ (w : Option Span). Some (record { refusal = t.refusal; row = i; value = w })) (stands.says k) ∙ sym (ruled_some t.refusal i (value_in line.form (place k line.name)) (first_refused (suc i) (rows_from (from + (i + 1)) (n - (i + 1))) (place k) (tree m (pairs k) f)) some) ∙ at_row k m f (fed f z) ∙ ap (λ (l : List Row). first_refused 0 l (place k) (tree m (pairs k) f)) (sym e) }
 
   pub rule_ends : {i : ℕ} {r : Option Ruling} (sort : Sort) → rows_of sort.kind ≡ rows_from from n → ((f : Forest) → Sorted sort f → Fed found from n f) → Tried-so-far s base table count found from n i → n ≤ i → r ≡ None → Rules s base table count sort r
   unfolding first_refused

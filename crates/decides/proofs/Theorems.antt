@@ -1,4 +1,6 @@
 -- What the promise of `decided` determines, and that the row it names is the first that is refused.
+use Rattle.std.specs.Prelude.{Option}
+use Rattle.value.specs.declared.text.Span.{Span}
 use mathlib.Core.Path.{◌≡◌, refl, sym, ap, subst, ◌∙◌}
 use mathlib.Core.List.{List, [], ◌∷◌, ◌++◌, append_assoc}
 use Prim.Native.Nat.{ℕ, zero, suc, ◌+◌, ◌-◌}
@@ -12,7 +14,6 @@ use Rattle.grammar.specs.Message.{Layout, Laid, read_layout}
 use Rattle.grammar.specs.Answer.{Ends, Answer as PaperAnswer, Answers, ends_at, more_from, malformed_at, too_long_from}
 use Rattle.model.proofs.Cuts.{piece_behind}
 use Rattle.model.proofs.Theorems.{one_layout, answers_only}
-use Rattle.value.specs.declared.text.Words.{Words}
 use Rattle.table.specs.Table.{Row, Entry}
 use Rattle.table.specs.Says.{refusal_in, tried, first, refusal_of, child_of, rows_for, said_in}
 use Rattle.message.specs.Checked.{places_in, ChecksBy, ends as ends_so, more as more_so, malformed as malformed_so, too_long as too_long_so}
@@ -56,7 +57,7 @@ decision_refuses : (k : ℕ) (x : Option Ruling) → (decided_by k x).refusal �
 decision_refuses k None = refl
 decision_refuses k (Some x) = refl
 
-pub ruled_refusal : (i : ℕ) (l : List Row) (place : Bytes → Words) (t : Tree) → refused_by (first_refused i l place t) ≡ refusal_of l t
+pub ruled_refusal : (i : ℕ) (l : List Row) (place : Bytes → Option Span) (t : Tree) → refused_by (first_refused i l place t) ≡ refusal_of l t
 unfolding first_refused refusal_of
 ruled_refusal i [] place t = refl
 ruled_refusal i (r ∷ l) place t = go (refusal_in (tried r t)) (ruled_refusal (suc i) l place t)
@@ -98,7 +99,7 @@ decided_as_checked {by} {s} {c} {r} p q =
     same_refusal by s a y (subst (λ (b : PaperAnswer). Refuses by s b r.refusal) (sym (answers_only s a a' x x')) y')
 
 -- the row that rules: none before it is refused, it is, and the value is its own
-pub record First (l : List Row) (place : Bytes → Words) (t : Tree) (x : Ruling) : Type 0 where
+pub record First (l : List Row) (place : Bytes → Option Span) (t : Tree) (x : Ruling) : Type 0 where
   pub before : List Row
   pub row : Row
   pub behind : List Row
@@ -109,7 +110,7 @@ pub record First (l : List Row) (place : Bytes → Words) (t : Tree) (x : Ruling
   pub value : x.value ≡ value_in row.form (place row.name)
 
 -- with the numbers counted from i
-record FirstFrom (i : ℕ) (l : List Row) (place : Bytes → Words) (t : Tree) (x : Ruling) : Type 0 where
+record FirstFrom (i : ℕ) (l : List Row) (place : Bytes → Option Span) (t : Tree) (x : Ruling) : Type 0 where
   before : List Row
   row : Row
   behind : List Row
@@ -120,13 +121,13 @@ record FirstFrom (i : ℕ) (l : List Row) (place : Bytes → Words) (t : Tree) (
   value : x.value ≡ value_in row.form (place row.name)
 
 -- what rules, and that it is that row
-abbrev pub IsFirst : List Row → (Bytes → Words) → Tree → Option Ruling → Type 0
+abbrev pub IsFirst : List Row → (Bytes → Option Span) → Tree → Option Ruling → Type 0
 IsFirst l place t r = (x : Ruling) × (r ≡ Some x) × First l place t x
 
-abbrev IsFirstFrom : ℕ → List Row → (Bytes → Words) → Tree → Option Ruling → Type 0
+abbrev IsFirstFrom : ℕ → List Row → (Bytes → Option Span) → Tree → Option Ruling → Type 0
 IsFirstFrom i l place t r = (x : Ruling) × (r ≡ Some x) × FirstFrom i l place t x
 
-first_from : (i : ℕ) (l : List Row) (place : Bytes → Words) (t : Tree) → (refusal_of l t ≡ 0 → ⊥) → IsFirstFrom i l place t (first_refused i l place t)
+first_from : (i : ℕ) (l : List Row) (place : Bytes → Option Span) (t : Tree) → (refusal_of l t ≡ 0 → ⊥) → IsFirstFrom i l place t (first_refused i l place t)
 unfolding first_refused refusal_of
 first_from i [] place t h = absurd (h refl)
 first_from i (r ∷ l) place t h = go (refusal_in (tried r t)) refl (first_from (suc i) l place t) h
@@ -137,7 +138,7 @@ first_from i (r ∷ l) place t h = go (refusal_in (tried r t)) refl (first_from 
     go (suc n) e on h = (record { refusal = suc n; row = i; value = value_in r.form (place r.name) }, refl, record { before = []; row = r; behind = l; rows = refl; number = omega arith; passed = refl; refused = e; value = refl })
 
 -- where rows refuse, the row that rules is the first that does
-pub first_decides : (l : List Row) (place : Bytes → Words) (t : Tree) → (refusal_of l t ≡ 0 → ⊥) → IsFirst l place t (first_refused 0 l place t)
+pub first_decides : (l : List Row) (place : Bytes → Option Span) (t : Tree) → (refusal_of l t ≡ 0 → ⊥) → IsFirst l place t (first_refused 0 l place t)
 first_decides l place t h = let (y, q, x) = first_from 0 l place t h in (y, q, record { before = x.before; row = x.row; behind = x.behind; rows = x.rows; number = let y = x.number in omega arith; passed = x.passed; refused = x.refused; value = x.value })
 
 -- the message that ends in s ends in s with bytes behind it, and has the same bytes

@@ -1,11 +1,10 @@
 -- What decides over a message. "Attributes are tried in table order, each for 4, 5, 6; the first decides"
 use Rattle.std.specs.Prelude.{◌≡◌, List, [], ◌∷◌, ℕ, zero, suc, ◌-◌, take, drop, Option, None, Some}
+use Rattle.value.specs.declared.text.Span.{Span}
 use Rattle.grammar.specs.Bytes.{Bytes}
 use Rattle.grammar.specs.Tree.{Tree}
 use Rattle.grammar.specs.Message.{Layout, Laid, read_layout}
 use Rattle.grammar.specs.Answer.{Answers, ends_at, more_from, malformed_at, too_long_from}
-use Rattle.value.specs.declared.text.Words.{Words}
-use Rattle.value.specs.declared.text.Words.TheVariants.{Absent}
 use Rattle.table.specs.Table.{Form, words, some_words, whole, guid, version, positive, features, Row, Entry, table}
 use Rattle.table.specs.Says.{refusal_in, tried, child_of, rows_for, said_in}
 use Rattle.message.specs.Checked.{places_in}
@@ -13,22 +12,22 @@ use Rattle.decides.specs.declared.Ruling.{Ruling}
 use Rattle.decides.specs.declared.Decision.{Decision}
 
 -- where the raw value of a row's attribute stands, if one of its name stands at w; a child has none
-unfoldable pub value_in : Form → Words → Words
+unfoldable pub value_in : Form → Option Span → Option Span
 value_in (words n) w = w
 value_in (some_words n) w = w
 value_in (whole lo hi) w = w
 value_in guid w = w
 value_in version w = w
 value_in positive w = w
-value_in features w = Absent
+value_in features w = None
 
 -- the row of number i, refused by n or not; those behind it rule as x
-abbrev pub ruled_by : ℕ → ℕ → Words → Option Ruling → Option Ruling
+abbrev pub ruled_by : ℕ → ℕ → Option Span → Option Ruling → Option Ruling
 ruled_by zero i w x = x
 ruled_by (suc n) i w x = Some (record { refusal = suc n; row = i; value = w })
 
 -- the first row that is refused, by its number; the first of the rows has the number i
-unfoldable pub first_refused : ℕ → List Row → (Bytes → Words) → Tree → Option Ruling
+unfoldable pub first_refused : ℕ → List Row → (Bytes → Option Span) → Tree → Option Ruling
 first_refused i [] place t = None
 first_refused i (r ∷ l) place t = ruled_by (refusal_in (tried r t)) i (value_in r.form (place r.name)) (first_refused (suc i) l place t)
 
@@ -39,7 +38,7 @@ decided_by k (Some x) = record { refusal = x.refusal; kind = k; row = x.row; val
 
 -- an answer without a message: 1, 2 or 3
 abbrev pub undecided : ℕ → Decision
-undecided n = record { refusal = n; kind = 0; row = 0; value = Absent }
+undecided n = record { refusal = n; kind = 0; row = 0; value = None }
 
 -- of a message laid out as l that starts at `start`: the first refused row of its kind, and the place of its raw value
 abbrev pub decided_in : List Entry → ℕ → Layout → Decision

@@ -14,7 +14,7 @@ use reads::trying::try_row;
 use refusals::Refusal;
 use rows::data::{NAMES, NUMBERS, Row, name_at, row_at, rows_of};
 use tags::attributes::PLACES;
-use value::Words;
+use value::Span;
 
 /// A row that decided: its refusal, its number among the rows of its kind, and the raw value of its attribute.
 // The refusal is document 01's number: `first_refused` has it, and `Decision` tells it.
@@ -22,7 +22,7 @@ use value::Words;
 pub struct Ruling {
     pub refusal: u8,
     pub row: usize,
-    pub value: Words,
+    pub value: Option<Span>,
 }
 
 /// What decided over a message: the refusal and the kind that checking says; of 4, 5 and 6 the row, counted from 0 in table order, and where its
@@ -33,7 +33,7 @@ pub struct Decision {
     pub refusal: u8,
     pub kind: u8,
     pub row: usize,
-    pub value: Words,
+    pub value: Option<Span>,
 }
 
 // No message was read.
@@ -44,7 +44,7 @@ fn unread(refusal: Refusal) -> Decision
         refusal: refusal.number(),
         kind: 0,
         row: 0,
-        value: Words::Absent,
+        value: None,
     }
 }
 
@@ -69,18 +69,18 @@ fn made(kind: u8, ruling: Option<Ruling>) -> Decision
             refusal: 0,
             kind,
             row: 0,
-            value: Words::Absent,
+            value: None,
         },
     }
 }
 
 // Where the raw value of a row's attribute stands; a child has none.
-fn value_of(attributes: &Attributes<'_>, names: &[u8], row: Row) -> Words
+fn value_of(attributes: &Attributes<'_>, names: &[u8], row: Row) -> Option<Span>
     requires { (names.now ≡ letters) × Sound row }
     ensures { StandsIn attributes.now row result }
 {
     if row.form == 0 {
-        return Words::Absent;
+        return None;
     }
     let name = name_at(names, row.line as usize, row.len as usize);
     attributes.find(0, name)

@@ -1,4 +1,5 @@
 -- Ids and versions, decoded: what they are decoded into is long enough, a version has 7 bytes at most.
+use Rattle.std.specs.Prelude.{Option, Some, None, is_some}
 use mathlib.Core.Path.{◌≡◌, refl, sym, ap, subst, ◌∙◌}
 use mathlib.Core.List.{List, [], ◌∷◌, ◌++◌, append-nil}
 use mathlib.Core.Bool.{Bool, true, false, cond}
@@ -22,10 +23,8 @@ use Rattle.number.specs.Version.{version_of}
 use Rattle.number.proofs.Tests.{and_left, and_right}
 use Rattle.shapes.proofs.VersionLaws.{too_long}
 use Rattle.value.specs.Numbers.{read, unread, GuidReads, VersionReads}
-use Rattle.value.specs.Ids.{no_id, id_read, IdReads}
-use Rattle.value.proofs.IdLaws.{guid_long, id_bytes, id_zeros}
-use Rattle.std.specs.Prelude.{Option, Some, None}
-use Rattle.value.specs.declared.id.Guid.{Guid}
+use Rattle.value.specs.Ids.{id_read, IdReads}
+use Rattle.value.proofs.IdLaws.{guid_long, id_bytes, id_none as unread_none}
 use Rattle.decodes.proofs.DecodeLaws.{Putting, putting_more, putting_end, length_known, no_length}
 use Rattle.decodes.proofs.NumberLaws.{plain_read}
 
@@ -72,22 +71,22 @@ pub guid_stands : (v : Bytes) {r : Bool} → r ≡ guid_of v → r ≡ true → 
 guid_stands v g e = plain_read refl (guid_plain v (sym g ∙ e)) (sym e ∙ g)
 
 -- by the id
-pub guid_there : {w : Bytes} {i : Guid} → IdReads w i → GuidReads w i.there
+pub guid_there : {w : Bytes} {i : Option Bytes} → IdReads w i → GuidReads w (is_some i)
 unfolding id_read
-guid_there {w} {i} (read l x q) = read l x (ap (λ (i : Guid). i.there) q ∙ there (guid_of (read_value l)))
+guid_there {w} {i} (read l x q) = read l x (ap is_some q ∙ there (guid_of (read_value l)))
   where
-    there : (t : Bool) → (cond t (record { there = true; bytes = read_value l }) no_id).there ≡ t
+    there : (t : Bool) → is_some (cond t (Some (read_value l)) None) ≡ t
     there true = refl
     there false = refl
-guid_there (unread n q) = unread n (ap (λ (i : Guid). i.there) q)
+guid_there (unread n q) = unread n (ap is_some q)
 
 -- by what was decoded
 module _ {w new : Bytes} {k : Option ℕ} (d : Decoded w (replicate 36 0) new k) where
-  pub id_unread : k ≡ None → {i : Guid} → i ≡ no_id → IdReads w i
-  id_unread q f = unread (no_length q d.long) f
+  pub id_unread : k ≡ None → IdReads w None
+  id_unread q = unread (no_length q d.long) refl
 
-  pub id_other : {n : ℕ} → k ≡ Some n → (n ≡ 36 → ⊥) → {i : Guid} → i ≡ no_id → IdReads w i
-  id_other q z f = let (l, x, e) = length_known q d.long in read l x (id_zeros (read_value l) refl (not_so (guid_of (read_value l)) (λ g. z (e ∙ guid_long (read_value l) g))) f)
+  pub id_other : {n : ℕ} → k ≡ Some n → (n ≡ 36 → ⊥) → IdReads w None
+  id_other q z = let (l, x, e) = length_known q d.long in read l x (unread_none (read_value l) refl (not_so (guid_of (read_value l)) (λ g. z (e ∙ guid_long (read_value l) g))) refl)
     where
       not_so : (t : Bool) → (t ≡ true → ⊥) → t ≡ false
       not_so true h = absurd (h refl)
@@ -99,11 +98,11 @@ module _ {w new : Bytes} {k : Option ℕ} (d : Decoded w (replicate 36 0) new k)
         let (l, x, e) = length_known q d.long in
         (l, x, d.bytes l x (omega arith) ∙ ap (λ (y : Bytes). read_value l ++ y) (drop_of_length-le (replicate 36 0) {i = length (read_value l)} (omega arith)) ∙ append-nil (read_value l))
 
-    pub id_read_lem : {r : Bool} → r ≡ guid_of new → r ≡ true → IdReads w (record { there = true; bytes = new })
+    pub id_read_lem : {r : Bool} → r ≡ guid_of new → r ≡ true → IdReads w (Some new)
     id_read_lem g e = let (l, x, o) = same in read l x (id_bytes (read_value l) (g ∙ ap guid_of o) e o)
 
-    pub id_none : {r : Bool} → r ≡ guid_of new → r ≡ false → {i : Guid} → i ≡ no_id → IdReads w i
-    id_none g e f = let (l, x, o) = same in read l x (id_zeros (read_value l) (g ∙ ap guid_of o) e f)
+    pub id_none : {r : Bool} → r ≡ guid_of new → r ≡ false → IdReads w None
+    id_none g e = let (l, x, o) = same in read l x (unread_none (read_value l) (g ∙ ap guid_of o) e refl)
 
 -- a version is no longer than its decoded bytes may be
 module _ {w new : Bytes} {k : Option ℕ} (d : Decoded w (replicate 7 0) new k) where

@@ -1,4 +1,5 @@
 -- What is answered of the bytes at a place, by what was found of them.
+use Rattle.std.specs.Prelude.{Option, Some, None}
 use mathlib.Core.Path.{◌≡◌, refl, sym, ap, subst, ◌∙◌}
 use mathlib.Core.List.{List}
 use mathlib.Core.Logic.{◌⊎◌, inl, inr}
@@ -23,8 +24,6 @@ use Rattle.decodes.specs.Plain.{plain}
 use Rattle.decodes.proofs.Plain.{plain_reads}
 use Rattle.std.specs.Prelude.{Option, None}
 use Rattle.value.specs.declared.text.Span.{Span}
-use Rattle.value.specs.declared.text.Words.{Words}
-use Rattle.value.specs.declared.text.Words.TheVariants.{Absent, Present}
 use Rattle.value.specs.declared.text.TextAt.TheVariants.{InMessage, InScratch, No}
 use Rattle.decodes.proofs.DecodeLaws.{no_length}
 
@@ -65,13 +64,13 @@ module _ (w : Bytes) (p : Span) (old : Bytes) where
 
 -- of the value
 module _ (msg : Bytes) (old : Bytes) where
-  pub text_absent : {t : Words} → t ≡ Absent → TextSays msg t old old (paper (No 4))
+  pub text_absent : {t : Option Span} → t ≡ None → TextSays msg t old old (paper (No 4))
   text_absent e = absent e refl refl
 
-  pub text_outside : {t : Words} (p : Span) → t ≡ Present p → length msg < p.start + p.len → TextSays msg t old old (paper (No 6))
+  pub text_outside : {t : Option Span} (p : Span) → t ≡ Some p → length msg < p.start + p.len → TextSays msg t old old (paper (No 6))
   text_outside p e h = outside p e h refl refl
 
-  pub text_there : {t : Words} (p : Span) {new : Bytes} {r : Told} → t ≡ Present p → p.start + p.len ≤ length msg → Answer (take (p.start + p.len - p.start) (drop p.start msg)) p old new r → TextSays msg t old new r
+  pub text_there : {t : Option Span} (p : Span) {new : Bytes} {r : Told} → t ≡ Some p → p.start + p.len ≤ length msg → Answer (take (p.start + p.len - p.start) (drop p.start msg)) p old new r → TextSays msg t old new r
   text_there p {new} {r} e h a =
       let same : p.start + p.len - p.start ≡ p.len = omega arith in
       there p e h (subst (λ (n : ℕ). Answer (take n (drop p.start msg)) p old new r) same a)

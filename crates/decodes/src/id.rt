@@ -1,36 +1,26 @@
 // Ids and versions of raw values, which are short: decoded, and then looked at.
 ghost use Rattle.std.specs.Prelude.{◌≡◌};
 ghost use Rattle.value.specs.Numbers.{GuidReads, VersionReads};
-ghost use Rattle.value.specs.Ids.{no_id, IdReads};
+ghost use Rattle.value.specs.Ids.{IdReads};
 
 use crate::decode::decode;
 use crate::tests::is_plain;
-use value::Guid;
-
-fn no_id() -> Guid
-    ensures { result ≡ no_id }
-{
-    Guid {
-        there: false,
-        bytes: [0u8; 36],
-    }
-}
 
 /// The id, as the value reads.
-pub fn id_at(raw: &[u8]) -> Guid
+pub fn id_at(raw: &[u8]) -> Option<[u8; 36]>
     ensures { IdReads raw.now result }
 {
     let mut bytes = [0u8; 36];
     let Some(n) = decode(raw, &mut bytes) else {
-        return no_id();
+        return None;
     };
     if n != 36 {
-        return no_id();
+        return None;
     }
     if shapes::is_guid(&bytes) {
-        return Guid { there: true, bytes };
+        return Some(bytes);
     }
-    no_id()
+    None
 }
 
 /// Whether it is a GUID, as the value reads. A GUID that stands in its own letters reads as itself.
@@ -40,8 +30,7 @@ pub fn guid_at(raw: &[u8]) -> bool
     if shapes::is_guid(raw) {
         return true;
     }
-    let g = id_at(raw);
-    g.there
+    id_at(raw).is_some()
 }
 
 // A Version, decoded: 3 digits before the point and 3 behind it are the longest.

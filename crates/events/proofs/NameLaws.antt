@@ -19,8 +19,6 @@ use Rattle.value.specs.Parts.{part_at, Lies}
 use Rattle.value.proofs.AskedLaws.{part_is_text}
 use Rattle.value.specs.declared.text.TextAt.{TextAt}
 use Rattle.value.specs.declared.text.Span.{Span}
-use Rattle.value.specs.declared.text.Words.{Words}
-use Rattle.value.specs.declared.text.Words.TheVariants.{Absent as NoWords, Present as IsWords}
 use Rattle.table.specs.Table.{Row, table}
 use Rattle.message.specs.Fields.{the_words}
 use Rattle.message.specs.Cells.{NUMBERS, cell_at, words_by, field_by, fields_from}
@@ -35,14 +33,14 @@ use Rattle.events.specs.Says.{forecast_cell, Got, Forecasts, Given, Kept, Reads,
 pub cell_else : (k : ℕ) → (k ≡ 5 → ⊥) → (k ≡ 11 → ⊥) → NUMBERS ≡ forecast_cell k
 cell_else k a b = rw (ne_eqb k 5 a, ne_eqb k 11 b) refl
 
-abbrev words_at : ℕ → List ℕ → Words
-words_at at cells = cond (leb NUMBERS at) NoWords (words_by (cell_at cells at) (cell_at cells (at + 1)) (cell_at cells (at + 2)))
+abbrev words_at : ℕ → List ℕ → Option Span
+words_at at cells = cond (leb NUMBERS at) None (words_by (cell_at cells at) (cell_at cells (at + 1)) (cell_at cells (at + 2)))
 
 module _ (cells : List ℕ) (id : Bytes) where
-  abbrev named : ℕ → Words
+  abbrev named : ℕ → Option Span
   named k = forecast_id (message_by k cells id)
 
-  abbrev placed : ℕ → Words
+  abbrev placed : ℕ → Option Span
   placed k = words_at (forecast_cell k) cells
 
   all_placed : listed named (suc KINDS) ≡ listed placed (suc KINDS)
@@ -60,10 +58,10 @@ module _ (cells : List ℕ) (id : Bytes) where
       go true e = listed_same named placed (suc KINDS) k all_placed (let z = leb-true k KINDS e in omega arith)
       go false e = none_placed k (leb-false k KINDS e)
 
-pub names_none : (k : ℕ) (cells : List ℕ) {at : ℕ} → at ≡ forecast_cell k → NUMBERS ≤ at → Names k cells NoWords
+pub names_none : (k : ℕ) (cells : List ℕ) {at : ℕ} → at ≡ forecast_cell k → NUMBERS ≤ at → Names k cells None
 names_none k cells {at} e h = record { says = λ id. sym (named_placed cells id k ∙ ap (λ (n : ℕ). words_at n cells) (sym e) ∙ rw (le-leb NUMBERS at h) refl) }
 
-pub names_one : (k : ℕ) (cells : List ℕ) {at t a b : ℕ} {w : Words} → at ≡ forecast_cell k → at < NUMBERS → t ≡ cell_at cells at → a ≡ cell_at cells (at + 1) → b ≡ cell_at cells (at + 2) → w ≡ words_by t a b → Names k cells w
+pub names_one : (k : ℕ) (cells : List ℕ) {at t a b : ℕ} {w : Option Span} → at ≡ forecast_cell k → at < NUMBERS → t ≡ cell_at cells at → a ≡ cell_at cells (at + 1) → b ≡ cell_at cells (at + 2) → w ≡ words_by t a b → Names k cells w
 names_one k cells {at} {t} {a} {b} e h p q r f =
     record { says = λ id. f ∙ rw (p, q, r) (sym (named_placed cells id k ∙ ap (λ (n : ℕ). words_at n cells) (sym e) ∙ rw (lt-leb NUMBERS at h) refl)) }
 
@@ -72,30 +70,30 @@ pub kept_all : (v : Bytes) {b : Bytes} → b ≡ v → length v ≤ 80 → Kept 
 kept_all v e h = record { says = λ k. ap (λ (b : List ℕ). record { length = length v; bytes = b ++ drop (length v) zeros }) e; too_long = λ k. absurd (omega arith) }
 
 -- the bytes that stand at a place
-pub reads_at : {s : Bytes} (p : Span) {room scratch : Bytes} (at : TextAt) (a b : ℕ × ℕ) {part : Bor (List ℕ)} {r : Forecast} → length room ≡ 80 → TextSays s (IsWords p) room scratch (paper at) → Lies (part_at a s b scratch at) part → Kept part.now r → Reads s p r
+pub reads_at : {s : Bytes} (p : Span) {room scratch : Bytes} (at : TextAt) (a b : ℕ × ℕ) {part : Bor (List ℕ)} {r : Forecast} → length room ≡ 80 → TextSays s (Some p) room scratch (paper at) → Lies (part_at a s b scratch at) part → Kept part.now r → Reads s p r
 reads_at {s} p {scratch = scratch} at a b {part} {r} e x y z = record { says = λ v t l h. let q = part_is_text s scratch at a b y p x l v t (omega arith) in subst (λ (b : Bytes). length b ≤ 80 → r ≡ forecast_of (a_forecast b)) q z.says h }
 
 pub kept_none : (v : Bytes) {r : Forecast} → 80 < length v → r ≡ no_forecast → Kept v r
 kept_none v h e = record { says = λ k. absurd (omega arith); too_long = λ k. e }
 
 -- the event of a message
-module _ {k : ℕ} {cells : List ℕ} {id : Bytes} {w : Words} (n : Names k cells w) where
-  pub got_none : {s : Bytes} → w ≡ NoWords → Got s k cells id (record { kind = k; id = id; forecast = None })
+module _ {k : ℕ} {cells : List ℕ} {id : Bytes} {w : Option Span} (n : Names k cells w) where
+  pub got_none : {s : Bytes} → w ≡ None → Got s k cells id (record { kind = k; id = id; forecast = None })
   got_none e = record { forecast = no_forecast_case; carries = λ i. carries_none (sym (n.says i) ∙ e) refl; is = refl }
 
-  pub got_one : {s : Bytes} (p : Span) {f : Forecast} → w ≡ IsWords p → Reads s p f → ((i : Bytes) → Sound s (forecast_id (message_by k cells i))) → Got s k cells id (record { kind = k; id = id; forecast = Some f })
+  pub got_one : {s : Bytes} (p : Span) {f : Forecast} → w ≡ Some p → Reads s p f → ((i : Bytes) → Sound s (forecast_id (message_by k cells i))) → Got s k cells id (record { kind = k; id = id; forecast = Some f })
   got_one {s} p {f} e r h =
       let (v, t, l, z) = h id p (sym (n.says id) ∙ e) in
       record { forecast = a_forecast v; carries = λ i. carries_one p (sym (n.says i) ∙ e) v t refl; is = ap (λ (f : Forecast). record { kind = k; id = id; forecast = Some f }) (r.says v t l z) }
 
 -- the forecast of one to be sent
-module _ {k : ℕ} {cells : List ℕ} {w : Words} (n : Names k cells w) where
-  pub sends_none : {texts : Bytes} → w ≡ NoWords → Forecasts texts k cells None
-  sends_none {texts} e = record { says = λ i. ap (λ (w : Words). forecast_told (carried_in texts w)) (sym e ∙ n.says i) }
+module _ {k : ℕ} {cells : List ℕ} {w : Option Span} (n : Names k cells w) where
+  pub sends_none : {texts : Bytes} → w ≡ None → Forecasts texts k cells None
+  sends_none {texts} e = record { says = λ i. ap (λ (w : Option Span). forecast_told (carried_in texts w)) (sym e ∙ n.says i) }
 
-  module _ {texts : Bytes} (p : Span) (e : w ≡ IsWords p) where
-    told : {r : Option Forecast} (f : Carried) → r ≡ forecast_told f → f ≡ carried_in texts (IsWords p) → Forecasts texts k cells r
-    told f q h = record { says = λ i. q ∙ ap forecast_told h ∙ ap (λ (w : Words). forecast_told (carried_in texts w)) (sym e ∙ n.says i) }
+  module _ {texts : Bytes} (p : Span) (e : w ≡ Some p) where
+    told : {r : Option Forecast} (f : Carried) → r ≡ forecast_told f → f ≡ carried_in texts (Some p) → Forecasts texts k cells r
+    told f q h = record { says = λ i. q ∙ ap forecast_told h ∙ ap (λ (w : Option Span). forecast_told (carried_in texts w)) (sym e ∙ n.says i) }
 
     pub sends_long : 80 < p.len → Forecasts texts k cells None
     sends_long h = told no_forecast_case refl (rw (lt-leb p.len 80 h) refl)

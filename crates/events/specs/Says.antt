@@ -6,7 +6,6 @@ use Rattle.lane.specs.declared.ids.Forecast.{Forecast}
 use Rattle.grammar.specs.Bytes.{Bytes}
 use Rattle.value.specs.Text.{Text}
 use Rattle.value.specs.declared.text.Span.{Span}
-use Rattle.value.specs.declared.text.Words.{Words}
 use Rattle.message.specs.Cells.{NUMBERS}
 use Rattle.message.specs.Messages.{message_by}
 use Rattle.meant.specs.Events.{Carried, no_forecast_case, a_forecast, forecast_of, forecast_told, event_with, forecast_id, Carries, carried_in}
@@ -25,7 +24,7 @@ pub record Reads (s : Bytes) (p : Span) (r : Forecast) : Type 0 where
   pub says : (v : Bytes) → Text (take p.len (drop p.start s)) v → p.start + p.len ≤ length s → length v ≤ 80 → r ≡ forecast_of (a_forecast v)
 
 -- the value ForecastId of a message of cells
-pub record Names (k : ℕ) (cells : List ℕ) (w : Words) : Type 0 where
+pub record Names (k : ℕ) (cells : List ℕ) (w : Option Span) : Type 0 where
   pub says : (id : Bytes) → w ≡ forecast_id (message_by k cells id)
 
 -- the event of a message of cells that was received in s, whose BoardId is `id`

@@ -4,7 +4,7 @@ ghost use Rattle.events.specs.Says.{forecast_cell, Kept, Names};
 
 use cells::{cell, text_from};
 use lane::{Forecast, Kind};
-use value::Words;
+use value::Span;
 
 /// The longest ForecastId.
 pub const LONGEST: usize = 80;
@@ -21,12 +21,12 @@ fn forecast_cell(kind: u8) -> usize
 }
 
 /// The value ForecastId of a message of that kind.
-pub fn forecast_words(kind: u8, cells: &[u64]) -> Words
+pub fn forecast_words(kind: u8, cells: &[u64]) -> Option<Span>
     ensures { Names kind cells.now result }
 {
     let at = forecast_cell(kind);
     if 72 <= at {
-        return Words::Absent;
+        return None;
     }
     text_from(cell(cells, at), cell(cells, at + 1), cell(cells, at + 2))
 }

@@ -6,14 +6,14 @@ ghost use Rattle.events.specs.Says.{Got, Reads};
 
 use crate::named::{forecast_words, kept};
 use lane::{Event, Forecast};
-use value::{Span, Words};
+use value::Span;
 
 // The ForecastId that stands there, decoded.
 fn read_at(s: &[u8], p: Span) -> Forecast
     ensures { Reads s.now p result }
 {
     let mut scratch = [0u8; 80];
-    let at = texts::text_decode(s, Words::Present(p), &mut scratch);
+    let at = texts::text_decode(s, Some(p), &mut scratch);
     kept(texts::text_part(s, &scratch, at))
 }
 
@@ -23,12 +23,12 @@ pub fn received_event(s: &[u8], kind: u8, cells: &[u64], id: [u8; 36]) -> Event
     ensures { Got s.now kind cells.now id result }
 {
     match forecast_words(kind, cells) {
-        Words::Absent => Event {
+        None => Event {
             kind,
             id,
             forecast: None,
         },
-        Words::Present(p) => Event {
+        Some(p) => Event {
             kind,
             id,
             forecast: Some(read_at(s, p)),

@@ -3,13 +3,12 @@ ghost use Rattle.events.specs.Says.{Forecasts, Given};
 
 use crate::named::{LONGEST, forecast_words, kept};
 use lane::{Event, Forecast};
-use value::Words;
 
 // The ForecastId of a message whose texts are parts of `texts`. One that is too long or runs outside is none: it is refused before.
 fn sent_forecast(kind: u8, cells: &[u64], texts: &[u8]) -> Option<Forecast>
     ensures { Forecasts texts.now kind cells.now result }
 {
-    let Words::Present(p) = forecast_words(kind, cells) else {
+    let Some(p) = forecast_words(kind, cells) else {
         return None;
     };
     if LONGEST < p.len || texts.len() < p.start || texts.len() - p.start < p.len {

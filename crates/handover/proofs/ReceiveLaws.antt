@@ -1,4 +1,6 @@
 -- What is written back, and each answer of receiving.
+use Rattle.std.specs.Prelude.{Option}
+use Rattle.value.specs.declared.text.Span.{Span}
 use mathlib.Core.Path.{◌≡◌, refl, sym, ap, subst, ◌∙◌}
 use mathlib.Core.List.{List, []}
 use mathlib.Core.Bool.{Bool, true, false, cond}
@@ -11,7 +13,6 @@ use Rattle.lane.specs.declared.Event.{Event}
 use Rattle.lane.specs.declared.Lane.{Lane}
 use Rattle.lane.specs.declared.Moved.{Moved}
 use Rattle.grammar.specs.Bytes.{Bytes}
-use Rattle.value.specs.declared.text.Words.{Words}
 use Rattle.message.specs.Cells.{NUMBERS, cell_at, words_by}
 use Rattle.message.specs.Checked.{Checks, handed_by, ChecksInto}
 use Rattle.message.specs.Messages.{message_by, blank}
@@ -95,7 +96,7 @@ module _ (l : Lane) {s old new : Bytes} {c : Checked} {v : Moved} {w : Count} (h
       go false g = absurd (let y : 7 ≡ 0 = sym (fits false g).0 ∙ z in omega arith)
 
 -- so for each message with that Id
-module _ {s : Bytes} {n : ℕ} {asks : Bool} {id : Words} where
+module _ {s : Bytes} {n : ℕ} {asks : Bool} {id : Option Span} where
   pub answers_nothing_yet : (old : Bytes) → n ≡ 1 → Answers s n asks id old old (record { refusal = 0; count = 0 })
   answers_nothing_yet old e = record { says = λ m f g. wrote_nothing_yet s m n old e }
 
@@ -103,7 +104,7 @@ module _ {s : Bytes} {n : ℕ} {asks : Bool} {id : Words} where
   answers_notice a b x = record { says = λ m f g. wrote_notice s m n a b x }
 
   pub answers_reply : {old new : Bytes} {r : Count} → n ≡ 0 → asks ≡ true → (asks ≡ true → Sound s id) → Replies s id old new r → Answers s n asks id old new r
-  answers_reply {old} {new} {r} e t h x = record { says = λ m f g. wrote_reply s m n e f t (subst (Sound s) (g t) (h t)) (subst (λ (w : Words). Replies s w old new r) (g t) x) }
+  answers_reply {old} {new} {r} e t h x = record { says = λ m f g. wrote_reply s m n e f t (subst (Sound s) (g t) (h t)) (subst (λ (w : Option Span). Replies s w old new r) (g t) x) }
 
   pub answers_none : (old : Bytes) → n ≡ 0 → asks ≡ false → Answers s n asks id old old (record { refusal = 0; count = 0 })
   answers_none old e t = record { says = λ m f g. wrote_no_reply s m n old e f t }
@@ -115,7 +116,7 @@ finish_long {before = before} (refuses z n e h) = ap length e ∙ length-replica
 finish_long (tells z y e h) = ap length e
 
 -- the three answers with cells
-module _ (l : Lane) {s : Bytes} {cells : List ℕ} {f : Found} {e : Event} {v : Moved} {asks : Bool} {alive : Words} (x : ChecksInto s cells f) (g : Got s f.kind cells f.id e) (ev : v ≡ moved_for l f.refusal e) (ea : asks ≡ asks_by f.kind (cell_at cells 0) (cell_at cells 1)) (ei : alive ≡ words_by (cell_at cells 3) (cell_at cells 4) (cell_at cells 5)) where
+module _ (l : Lane) {s : Bytes} {cells : List ℕ} {f : Found} {e : Event} {v : Moved} {asks : Bool} {alive : Option Span} (x : ChecksInto s cells f) (g : Got s f.kind cells f.id e) (ev : v ≡ moved_for l f.refusal e) (ea : asks ≡ asks_by f.kind (cell_at cells 0) (cell_at cells 1)) (ei : alive ≡ words_by (cell_at cells 3) (cell_at cells 4) (cell_at cells 5)) where
   abbrev message : Message
   message = message_by f.kind cells f.id
 

@@ -1,11 +1,11 @@
 -- What the inner functions of receiving promise.
-use Rattle.std.specs.Prelude.{◌≡◌, List, Bool, true, ◌&&◌, ℕ, length, replicate, eqb}
+use Rattle.value.specs.declared.text.Span.{Span}
+use Rattle.std.specs.Prelude.{◌≡◌, List, Bool, true, ◌&&◌, ℕ, length, replicate, eqb, Option}
 use Rattle.lane.specs.Names.{NoOrder, CheckAlive}
 use Rattle.lane.specs.Record.{no_id}
 use Rattle.lane.specs.declared.Lane.{Lane}
 use Rattle.lane.specs.declared.Moved.{Moved}
 use Rattle.grammar.specs.Bytes.{Bytes}
-use Rattle.value.specs.declared.text.Words.{Words}
 use Rattle.message.specs.Cells.{whole_by}
 use Rattle.message.specs.declared.checking.Found.{Found}
 use Rattle.message.specs.declared.cells.Message.{Message}
@@ -21,7 +21,7 @@ pub record Written (s : Bytes) (m : Message) (n : ℕ) (old new : Bytes) (w : Co
   pub first : First due old new w
 
 -- so for each message that asks for a reply or not, and has that Id
-pub record Answers (s : Bytes) (n : ℕ) (asks : Bool) (id : Words) (old new : Bytes) (w : Count) : Type 0 where
+pub record Answers (s : Bytes) (n : ℕ) (asks : Bool) (id : Option Span) (old new : Bytes) (w : Count) : Type 0 where
   pub says : (m : Message) → asks ≡ asks_reply m → (asks ≡ true → id ≡ reply_id m) → Written s m n old new w
 
 -- The same with a message's cells and its BoardId instead of the message.

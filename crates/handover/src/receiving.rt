@@ -16,7 +16,7 @@ use promises::{Receipt, Received};
 use reads::check_outlined;
 use reads::features::sort_of;
 use tags::attributes::PLACES;
-use value::Words;
+use value::Span;
 
 // Whether a message is a CheckAlive of Type 1, by its first cell.
 fn asks_reply(kind: u8, there: u64, n: u64) -> bool
@@ -49,7 +49,7 @@ fn moved_by(lane: Lane, refusal: u8, event: Event) -> Moved
 }
 
 // What is written back; `asks` says that a reply is, to a CheckAlive with that Id.
-fn answer(s: &[u8], refusal: u8, asks: bool, id: Words, out: &mut [u8]) -> Written
+fn answer(s: &[u8], refusal: u8, asks: bool, id: Option<Span>, out: &mut [u8]) -> Written
     requires { asks ≡ true → Sound s.now id }
     ensures { Answers s.now refusal asks id out.old out.new result }
 {

@@ -99,7 +99,7 @@ inside_good a b c =
 inside_spelt : (f : Features) → features_inside f ≡ spell_content (inside f.forecast f.query f.send)
 inside_spelt f = go f.forecast f.query f.send
   where
-    go : (a b c : Bool) → features_inside (record { there = f.there; forecast = a; query = b; send = c }) ≡ spell_content (inside a b c)
+    go : (a b c : Bool) → features_inside (record { forecast = a; query = b; send = c }) ≡ spell_content (inside a b c)
     go true true true = refl
     go true true false = refl
     go true false true = refl

@@ -1,4 +1,5 @@
 -- What a message carries is one, and its value is the same whatever its BoardId.
+use Rattle.std.specs.Prelude.{Option, Some, None}
 use mathlib.Core.List.{List, [], ◌∷◌}
 use mathlib.Core.Bool.{Bool, true, false, cond}
 use mathlib.Core.Path.{◌≡◌, refl, sym, ap, subst, ◌∙◌}
@@ -9,28 +10,26 @@ use Rattle.grammar.specs.Bytes.{Bytes, text, same}
 use Rattle.value.specs.Text.{Text}
 use Rattle.value.proofs.Quotes.{text_one}
 use Rattle.value.specs.declared.text.Span.{Span}
-use Rattle.value.specs.declared.text.Words.{Words}
-use Rattle.value.specs.declared.text.Words.TheVariants.{Absent as NoWords, Present as IsWords}
 use Rattle.table.specs.Table.{Row, Form, words, some_words, whole, guid, version, positive, features, rows_of}
 use Rattle.message.specs.Fields.{Field, the_words}
 use Rattle.message.specs.Cells.{cell_at, field_by, fields_from}
 use Rattle.message.specs.Messages.{message_by, fields_of, called_in}
 use Rattle.meant.specs.Events.{Carried, a_forecast, forecast_id, Carries, carries_none, carries_one}
 
-one_span : {w : Words} {p p' : Span} → w ≡ IsWords p → w ≡ IsWords p' → p ≡ p'
+one_span : {w : Option Span} {p p' : Span} → w ≡ Some p → w ≡ Some p' → p ≡ p'
 one_span a b = cc
 
-not_both : {X : Type 0} {w : Words} {p : Span} → w ≡ NoWords → w ≡ IsWords p → X
+not_both : {X : Type 0} {w : Option Span} {p : Span} → w ≡ None → w ≡ Some p → X
 not_both a b = absurd (let z : ◌≡◌ {A = ℕ} 0 1 = cc in omega arith)
 
 -- of two inputs in which the value reads alike
-pub carries_alike : {a b : Bytes} {w : Words} {f f' : Carried} → ((p : Span) → w ≡ IsWords p → (v v' : Bytes) → Text (take p.len (drop p.start a)) v → Text (take p.len (drop p.start b)) v' → v ≡ v') → Carries a w f → Carries b w f' → f ≡ f'
+pub carries_alike : {a b : Bytes} {w : Option Span} {f f' : Carried} → ((p : Span) → w ≡ Some p → (v v' : Bytes) → Text (take p.len (drop p.start a)) v → Text (take p.len (drop p.start b)) v' → v ≡ v') → Carries a w f → Carries b w f' → f ≡ f'
 carries_alike h (carries_none e q) (carries_none e' q') = q ∙ sym q'
 carries_alike h (carries_none e q) (carries_one p' e' v' t' q') = not_both e e'
 carries_alike h (carries_one p e v t q) (carries_none e' q') = not_both e' e
 carries_alike {b = b} h (carries_one p e v t q) (carries_one p' e' v' t' q') = q ∙ ap a_forecast (h p e v v' t (subst (λ (p : Span). Text (take p.len (drop p.start b)) v') (one_span e' e) t')) ∙ sym q'
 
-pub carries_only : {s : Bytes} {w : Words} {f f' : Carried} → Carries s w f → Carries s w f' → f ≡ f'
+pub carries_only : {s : Bytes} {w : Option Span} {f f' : Carried} → Carries s w f → Carries s w f' → f ≡ f'
 carries_only x y = carries_alike (λ p e v v' t t'. text_one t t') x y
 
 -- a text does not look at the BoardId

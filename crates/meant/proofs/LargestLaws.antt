@@ -1,7 +1,7 @@
 -- A message of the largest size: each text as long as it may be, and nothing in it but quotes.
+use Rattle.std.specs.Prelude.{Some}
 use mathlib.Core.Path.{◌≡◌, refl}
 use mathlib.Core.List.{List, [], ◌∷◌}
-use mathlib.Core.Bool.{true}
 use lib.ListN.{length, replicate}
 use Rattle.lane.specs.Names.{BoardForecast}
 use Rattle.grammar.specs.Bytes.{Bytes, text, within}
@@ -13,13 +13,10 @@ use Rattle.number.specs.Digits.{digits_of, print_int}
 use Rattle.spelling.specs.Written.{escape_byte, escape}
 use Rattle.spelling.specs.Decided.{text_from, is_text}
 use Rattle.spelling.proofs.Theorems.{largest}
-use Rattle.value.specs.declared.text.Words.TheVariants.{Present as IsWords}
 use Rattle.table.specs.Table.{Form, words, some_words, whole, guid, version, positive, features, Row, table, rows_of}
 use Rattle.message.specs.Fields.{Field, none, a_words, a_whole, a_measure, a_guid}
 use Rattle.message.specs.Cells.{cells_of, fields_from, field_by, words_by, whole_by, measure_by, guid_by, features_by}
 use Rattle.message.specs.Messages.{message_from, fields_of, with_zeros}
-use Rattle.message.specs.declared.values.Whole.TheVariants.{Present as IsWhole}
-use Rattle.message.specs.declared.values.Measure.TheVariants.{Present as IsMeasure}
 use Rattle.message.specs.declared.cells.Message.{Message}
 use Rattle.meant.specs.Meant.{meant_by, meant_of, refusal_of}
 use Rattle.meant.specs.Written.{attribute_of, attributes_of, child_of, children_of, written_of}
@@ -30,12 +27,12 @@ quotes = replicate 254 34
 
 -- a field of the largest size: the first n quotes, the largest int, the largest decimal
 abbrev largest_field : Form → Field
-largest_field (words n) = a_words (IsWords (record { start = 0; len = n }))
-largest_field (some_words n) = a_words (IsWords (record { start = 0; len = n }))
-largest_field (whole lo hi) = a_whole (IsWhole hi)
-largest_field guid = a_guid (record { there = true; bytes = text "01234567-89ab-cdef-0123-456789abcdef" })
+largest_field (words n) = a_words (Some (record { start = 0; len = n }))
+largest_field (some_words n) = a_words (Some (record { start = 0; len = n }))
+largest_field (whole lo hi) = a_whole (Some hi)
+largest_field guid = a_guid (Some (text "01234567-89ab-cdef-0123-456789abcdef"))
 largest_field version = none
-largest_field positive = a_measure (IsMeasure 9999999999999 0)
+largest_field positive = a_measure (Some (record { millionths = 9999999999999; decimals = 0 }))
 largest_field features = none
 
 abbrev largest_fields : List Row → List Field

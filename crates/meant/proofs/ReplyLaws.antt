@@ -1,4 +1,5 @@
 -- What is written back: no second answer, what a reply reads as, and how long it is.
+use Rattle.std.specs.Prelude.{Option, Some, None}
 use mathlib.Core.Path.{◌≡◌, refl, sym, ap, subst, ◌∙◌}
 use mathlib.Core.List.{List, [], ◌∷◌}
 use mathlib.Core.Bool.{true}
@@ -13,8 +14,6 @@ use Rattle.grammar.specs.Message.{Message as IsMessage}
 use Rattle.value.specs.Text.{Text}
 use Rattle.value.proofs.Quotes.{text_one}
 use Rattle.value.specs.declared.text.Span.{Span}
-use Rattle.value.specs.declared.text.Words.{Words}
-use Rattle.value.specs.declared.text.Words.TheVariants.{Absent as NoWords, Present as IsWords}
 use Rattle.spelling.specs.Decided.{is_text}
 use Rattle.table.specs.Table.{table, rows_of}
 use Rattle.table.specs.Says.{Result, absent, present, a_text, an_int, said_of}
@@ -37,34 +36,34 @@ first_only p q = (p.answer ∙ sym q.answer, p.buffer ∙ sym q.buffer)
 pub notify_only : (n : ℕ) {old new new' : Bytes} {r r' : Written} → First (notice n) old new r → First (notice n) old new' r' → (r ≡ r') × (new ≡ new')
 notify_only n p q = first_only p q
 
-one_span : {w : Words} {p p' : Span} → w ≡ IsWords p → w ≡ IsWords p' → p ≡ p'
+one_span : {w : Option Span} {p p' : Span} → w ≡ Some p → w ≡ Some p' → p ≡ p'
 one_span a b = cc
 
-not_both : {X : Type 0} {w : Words} {p : Span} → w ≡ NoWords → w ≡ IsWords p → X
+not_both : {X : Type 0} {w : Option Span} {p : Span} → w ≡ None → w ≡ Some p → X
 not_both a b = absurd (let z : ◌≡◌ {A = ℕ} 0 1 = cc in omega arith)
 
 -- the text at one place is one
-same_text : (s : Bytes) {w : Words} {p p' : Span} {v v' : Bytes} → w ≡ IsWords p → w ≡ IsWords p' → Text (take p.len (drop p.start s)) v → Text (take p'.len (drop p'.start s)) v' → v ≡ v'
+same_text : (s : Bytes) {w : Option Span} {p p' : Span} {v v' : Bytes} → w ≡ Some p → w ≡ Some p' → Text (take p.len (drop p.start s)) v → Text (take p'.len (drop p'.start s)) v' → v ≡ v'
 same_text s {v' = v'} a b x y = text_one x (subst (λ (p : Span). Text (take p.len (drop p.start s)) v') (one_span b a) y)
 
 -- a reply is one
-pub reply_one : {s b b' : Bytes} {w : Words} → Reply s w b → Reply s w b' → b ≡ b'
+pub reply_one : {s b b' : Bytes} {w : Option Span} → Reply s w b → Reply s w b' → b ≡ b'
 reply_one {s} (same_id_case p e l v t h f) (same_id_case p' e' l' v' t' h' f') = f ∙ ap (λ (v : Bytes). written_of (same_of (length v)) v) (same_text s e e' t t') ∙ sym f'
 reply_one (same_id_case p e l v t h f) (no_id_case e' f') = not_both e' e
 reply_one (no_id_case e f) (same_id_case p' e' l' v' t' h' f') = not_both e e'
 reply_one (no_id_case e f) (no_id_case e' f') = f ∙ sym f'
 
-no_reply : {X : Type 0} (s : Bytes) {w : Words} {b : Bytes} {p : Span} → Reply s w b → w ≡ IsWords p → ((v : Bytes) → Text (take p.len (drop p.start s)) v → p.start + p.len ≤ length s → length v ≤ 80 → ⊥) → X
+no_reply : {X : Type 0} (s : Bytes) {w : Option Span} {b : Bytes} {p : Span} → Reply s w b → w ≡ Some p → ((v : Bytes) → Text (take p.len (drop p.start s)) v → p.start + p.len ≤ length s → length v ≤ 80 → ⊥) → X
 no_reply s (same_id_case p e l v t h f) g n = absurd (subst (λ (p : Span). ((v : Bytes) → Text (take p.len (drop p.start s)) v → p.start + p.len ≤ length s → length v ≤ 80 → ⊥)) (one_span g e) n v t l h)
 no_reply s (no_id_case e f) g n = not_both e g
 
-far_out : (s : Bytes) {w : Words} (p p' : Span) → w ≡ IsWords p → w ≡ IsWords p' → length s < p.start + p.len → p'.start + p'.len ≤ length s → ⊥
+far_out : (s : Bytes) {w : Option Span} (p p' : Span) → w ≡ Some p → w ≡ Some p' → length s < p.start + p.len → p'.start + p'.len ≤ length s → ⊥
 far_out s p p' e f h k = let a = ap (λ (p : Span). p.start + p.len) (one_span e f) in omega arith
 
 refused_alike : {old new new' : Bytes} {q r r' : Written} → r ≡ q → new ≡ old → r' ≡ q → new' ≡ old → (r ≡ r') × (new ≡ new')
 refused_alike a b c d = (a ∙ sym c, b ∙ sym d)
 
-module _ {s : Bytes} {w : Words} {old new new' : Bytes} {r r' : Written} where
+module _ {s : Bytes} {w : Option Span} {old new new' : Bytes} {r r' : Written} where
   -- no second result, and no other buffer, satisfies the promise of `reply`
   pub replies_only : Replies s w old new r → Replies s w old new' r' → (r ≡ r') × (new ≡ new')
   replies_only (replied b x f) (replied b' y g) = first_only f (subst (λ (b : Bytes). First b old new' r') (reply_one y x) g)
@@ -85,7 +84,7 @@ module _ {s : Bytes} {w : Words} {old new new' : Bytes} {r r' : Written} where
   replies_only (no_text p e l n i j) (no_text p' e' l' n' i' j') = refused_alike i j i' j'
 
 -- an Id that is a text of at most 80 bytes, or none, is replied to: only room can lack
-pub reply_written : {s old new : Bytes} {w : Words} {r : Written} → ((p : Span) → w ≡ IsWords p → (v : Bytes) × Text (take p.len (drop p.start s)) v × (p.start + p.len ≤ length s) × (length v ≤ 80)) → Replies s w old new r
+pub reply_written : {s old new : Bytes} {w : Option Span} {r : Written} → ((p : Span) → w ≡ Some p → (v : Bytes) × Text (take p.len (drop p.start s)) v × (p.start + p.len ≤ length s) × (length v ≤ 80)) → Replies s w old new r
     → (b : Bytes) × Reply s w b × First b old new r
 reply_written h (replied b x f) = (b, x, f)
 reply_written h (too_long p e l v t k i j) = let (v', t', l', k') = h p e in absurd (let z = ap length (text_one t t') in omega arith)
@@ -128,7 +127,7 @@ bare_back =
     (x, m, k, z, l ∙ bare_meant)
 
 -- T2.L10: a reply reads as a CheckAlive, "Type 2 and the same Id, or no Id"
-pub reply_reads_back : {s b : Bytes} {w : Words} → Reply s w b
+pub reply_reads_back : {s b : Bytes} {w : Option Span} → Reply s w b
     → (t : Tree) × IsMessage b t × ((said_of t).kind ≡ 10) × ((said_of t).refusal ≡ 0) × SameId s w (said_of t).values
 unfolding Back
 reply_reads_back {s} {b} {w} (same_id_case p e l v t h f) =
@@ -139,7 +138,7 @@ reply_reads_back {s} {b} {w} (no_id_case e f) =
     (x, subst (λ (b : Bytes). IsMessage b x) (sym f) m, k, z, record { id = absent; values = y; none = λ n. refl; same = λ p' e' v' t'. not_both e e' })
 
 -- and has at most 525 bytes
-pub reply_long : {s b : Bytes} {w : Words} → Reply s w b → length b ≤ 525
+pub reply_long : {s b : Bytes} {w : Option Span} → Reply s w b → length b ≤ 525
 unfolding same_of bare_of message_from
 reply_long (same_id_case p e l v t h f) = let x = written_most (same_of (length v)) v (same_sendable v (read_is_text t) h) in let y = most_each.9 in let z = ap length f in omega arith
 reply_long (no_id_case e f) = let x = written_most bare_of [] bare_sendable in let y = most_each.9 in let z = ap length f in omega arith

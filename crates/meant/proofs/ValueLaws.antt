@@ -1,4 +1,5 @@
 -- What is written for a field is worth what the field means.
+use Rattle.std.specs.Prelude.{Some, None}
 use mathlib.Core.Path.{◌≡◌, refl}
 use mathlib.Core.List.{[], ◌++◌}
 use mathlib.Core.Bool.{Bool, true, false, ◌&&◌, cond}
@@ -19,12 +20,9 @@ use Rattle.spelling.specs.Characters.{IsText}
 use Rattle.spelling.specs.Decided.{is_text}
 use Rattle.spelling.proofs.Theorems.{text_decided, int_as_is, decimal_as_is, guid_as_is, int_inverse, decimal_inverse, decimals_inverse, escape_long}
 use Rattle.value.specs.declared.text.Span.{Span}
-use Rattle.value.specs.declared.text.Words.TheVariants.{Absent as NoWords, Present as IsWords}
 use Rattle.table.specs.Table.{Form, words, some_words, whole, guid, version, positive, features, Need, required, optional, required_with, ignored}
 use Rattle.table.specs.Says.{Value, a_text, an_int, millionths, an_id, noted, Result, absent, present, refused, TOO_LONG, when, without, by_need, judged, refusal_in}
 use Rattle.message.specs.Fields.{Field, none, a_words, a_whole, a_measure, a_guid, a_features}
-use Rattle.message.specs.declared.values.Whole.TheVariants.{Absent as NoWhole, Present as IsWhole}
-use Rattle.message.specs.declared.values.Measure.TheVariants.{Absent as NoMeasure, Present as IsMeasure}
 use Rattle.message.specs.declared.values.Features.{Features}
 use Rattle.meant.specs.Meant.{text_at, sendable, text_meant, whole_meant, MOST, measure_meant, id_meant, features_meant, meant_as, is_given}
 use Rattle.meant.specs.Written.{attribute, attribute_of, closed, features_inside, child_of, written_need}
@@ -156,30 +154,19 @@ pub data Puts (t : Form) (n : Bytes) (x : Field) (texts : Bytes) : Type 0 where
   puts_child : (f : Features) → attribute_of n x texts ≡ [] → child_of n x ≡ features_child n f → is_given x ≡ false → is_child t ≡ true
       → ((opt : Bool) → meant_as t x texts opt ≡ present (noted f.forecast f.query f.send)) → Puts t n x texts
 
-guid_puts : (t : Form) (n : Bytes) (there : Bool) (v texts : Bytes) (opt : Bool) → let x = a_guid (record { there = there; bytes = v }) in refusal_in (meant_as t x texts opt) ≡ 0 → Puts t n x texts
-unfolding attribute_of child_of
-guid_puts t n true v texts opt h = puts_value v (id_meant t v) refl refl refl (λ o. refl) (id_worth t v h)
-guid_puts t n false v texts opt h = puts_none refl refl refl (λ o. refl)
-
-features_puts : (t : Form) (n : Bytes) (there a b c : Bool) (texts : Bytes) (opt : Bool) → let x = a_features (record { there = there; forecast = a; query = b; send = c }) in refusal_in (meant_as t x texts opt) ≡ 0 → Puts t n x texts
-unfolding attribute_of child_of
-features_puts t n true a b c texts opt h =
-    let f : Features = record { there = true; forecast = a; query = b; send = c } in
-    let (k, e) = features_worth t f h in
-    puts_child f refl refl refl k (λ o. e)
-features_puts t n false a b c texts opt h = puts_none refl refl refl (λ o. refl)
-
 pub puts : (t : Form) (n : Bytes) (x : Field) (texts : Bytes) (opt : Bool) → refusal_in (meant_as t x texts opt) ≡ 0 → Puts t n x texts
 unfolding attribute_of child_of
 puts t n none texts opt h = absurd (omega arith)
-puts t n (a_words NoWords) texts opt h = puts_none refl refl refl (λ o. refl)
-puts t n (a_words (IsWords p)) texts opt h = puts_value (text_at texts p) (text_meant t texts p) refl refl refl (λ o. refl) (text_worth t texts p h)
-puts t n (a_whole NoWhole) texts opt h = puts_none refl refl refl (λ o. refl)
-puts t n (a_whole (IsWhole k)) texts opt h = puts_value (print_int k) (whole_meant t k) refl refl refl (λ o. refl) (whole_worth t k h)
-puts t n (a_measure NoMeasure) texts opt h = puts_none refl refl refl (λ o. refl)
-puts t n (a_measure (IsMeasure x d)) texts opt h = puts_value (print_decimal x d) (measure_meant t x d) refl refl refl (λ o. refl) (measure_worth t x d h)
-puts t n (a_guid g) texts opt h = guid_puts t n g.there g.bytes texts opt h
-puts t n (a_features f) texts opt h = features_puts t n f.there f.forecast f.query f.send texts opt h
+puts t n (a_words None) texts opt h = puts_none refl refl refl (λ o. refl)
+puts t n (a_words (Some p)) texts opt h = puts_value (text_at texts p) (text_meant t texts p) refl refl refl (λ o. refl) (text_worth t texts p h)
+puts t n (a_whole None) texts opt h = puts_none refl refl refl (λ o. refl)
+puts t n (a_whole (Some k)) texts opt h = puts_value (print_int k) (whole_meant t k) refl refl refl (λ o. refl) (whole_worth t k h)
+puts t n (a_measure None) texts opt h = puts_none refl refl refl (λ o. refl)
+puts t n (a_measure (Some d)) texts opt h = puts_value (print_decimal d.millionths d.decimals) (measure_meant t d.millionths d.decimals) refl refl refl (λ o. refl) (measure_worth t d.millionths d.decimals h)
+puts t n (a_guid None) texts opt h = puts_none refl refl refl (λ o. refl)
+puts t n (a_guid (Some v)) texts opt h = puts_value v (id_meant t v) refl refl refl (λ o. refl) (id_worth t v h)
+puts t n (a_features None) texts opt h = puts_none refl refl refl (λ o. refl)
+puts t n (a_features (Some f)) texts opt h = let (k, e) = features_worth t f h in puts_child f refl refl refl k (λ o. e)
 
 -- a need that is looked at, with or without leave to be missing, or not
 pub data Looks (n : Need) : Type 0 where

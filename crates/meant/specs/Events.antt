@@ -1,13 +1,11 @@
 -- What the chart looks at in a message.
-use Rattle.std.specs.Prelude.{◌≡◌, ◌++◌, Option, Some, None, ◌&&◌, cond, ℕ, ◌+◌, ◌≤◌, length, take, drop, replicate, leb}
+use Rattle.std.specs.Prelude.{◌≡◌, ◌++◌, Option, Some, None, ◌&&◌, cond, ℕ, ◌+◌, ◌≤◌, length, take, drop, replicate, leb, Bool, true, false}
 use Rattle.lane.specs.Record.{no_forecast}
 use Rattle.lane.specs.declared.Event.{Event}
 use Rattle.lane.specs.declared.ids.Forecast.{Forecast}
 use Rattle.grammar.specs.Bytes.{Bytes}
 use Rattle.value.specs.Text.{Text}
 use Rattle.value.specs.declared.text.Span.{Span}
-use Rattle.value.specs.declared.text.Words.{Words}
-use Rattle.value.specs.declared.text.Words.TheVariants.{Absent as NoWords, Present as IsWords}
 use Rattle.message.specs.Fields.{the_words}
 use Rattle.message.specs.Messages.{id_of, called}
 use Rattle.message.specs.declared.cells.Message.{Message}
@@ -35,18 +33,18 @@ abbrev pub event_of : Message → Carried → Event
 event_of m f = event_with m.kind (id_of m) f
 
 -- the value ForecastId of a message
-unfoldable pub forecast_id : Message → Words
+unfoldable pub forecast_id : Message → Option Span
 forecast_id m = the_words (called "ForecastId" m)
 
 -- received in s: the bytes that the value reads as
-pub data Carries (s : Bytes) (w : Words) (f : Carried) : Type 0 where
-  carries_none : w ≡ NoWords → f ≡ no_forecast_case → Carries s w f
-  carries_one : (p : Span) → w ≡ IsWords p → (v : Bytes) → Text (take p.len (drop p.start s)) v → f ≡ a_forecast v → Carries s w f
+pub data Carries (s : Bytes) (w : Option Span) (f : Carried) : Type 0 where
+  carries_none : w ≡ None → f ≡ no_forecast_case → Carries s w f
+  carries_one : (p : Span) → w ≡ Some p → (v : Bytes) → Text (take p.len (drop p.start s)) v → f ≡ a_forecast v → Carries s w f
 
 -- to be sent: the part of the texts; one that is too long or runs outside is refused before it is looked at
-abbrev pub carried_in : Bytes → Words → Carried
-carried_in texts NoWords = no_forecast_case
-carried_in texts (IsWords p) = cond (leb p.len 80 && leb (p.start + p.len) (length texts)) (a_forecast (text_at texts p)) no_forecast_case
+abbrev pub carried_in : Bytes → Option Span → Carried
+carried_in texts None = no_forecast_case
+carried_in texts (Some p) = cond (leb p.len 80 && leb (p.start + p.len) (length texts)) (a_forecast (text_at texts p)) no_forecast_case
 
 unfoldable pub carried_by : Message → Bytes → Carried
 carried_by m texts = carried_in texts (forecast_id m)
@@ -55,5 +53,5 @@ abbrev pub event_sent : Message → Bytes → Event
 event_sent m texts = event_of m (carried_by m texts)
 
 -- a text of s that `check` let pass: of at most 80 bytes
-abbrev pub Sound : Bytes → Words → Type 0
-Sound s w = (p : Span) → w ≡ IsWords p → (v : Bytes) × Text (take p.len (drop p.start s)) v × (p.start + p.len ≤ length s) × (length v ≤ 80)
+abbrev pub Sound : Bytes → Option Span → Type 0
+Sound s w = (p : Span) → w ≡ Some p → (v : Bytes) × Text (take p.len (drop p.start s)) v × (p.start + p.len ≤ length s) × (length v ≤ 80)

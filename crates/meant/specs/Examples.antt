@@ -1,5 +1,5 @@
 -- Worked examples: the bytes of messages of each kind, and what may be sent at the ends of each range and just beyond. They hold by computation.
-use Rattle.std.specs.Prelude.{◌≡◌, refl, List, [], ◌∷◌, Bool, true, false, ℕ, zero, suc}
+use Rattle.std.specs.Prelude.{◌≡◌, refl, List, [], ◌∷◌, Bool, true, false, ℕ, zero, suc, Some, None}
 use Prim.Native.String.{String}
 use Rattle.grammar.specs.Bytes.{Bytes, text, within}
 use Rattle.grammar.specs.Character.{is_char}
@@ -10,33 +10,30 @@ use Rattle.number.specs.Version.{one_to_three, version_of}
 use Rattle.number.specs.Digits.{digits_of, print_int, places}
 use Rattle.spelling.specs.Written.{escape_byte, escape, behind_point, print_decimal}
 use Rattle.spelling.specs.Decided.{text_from, is_text}
-use Rattle.value.specs.declared.text.Words.TheVariants.{Absent as NoWords, Present as IsWords}
 use Rattle.table.specs.Table.{words, some_words, whole, guid, version, positive, features, Entry, entry, ◌is◌, ◌opt◌, if_there, table}
 use Rattle.table.specs.Says.{a_text, an_int, millionths, an_id, noted, absent, present, refused}
 use Rattle.message.specs.Fields.{Field, a_words, a_whole, a_measure, a_guid, a_features}
 use Rattle.message.specs.Cells.{cells_of, fields_from, field_by, words_by, whole_by, measure_by, guid_by, features_by}
 use Rattle.message.specs.Messages.{message_from, fields_of, with_zeros}
-use Rattle.message.specs.declared.values.Whole.TheVariants.{Absent as NoWhole, Present as IsWhole}
-use Rattle.message.specs.declared.values.Measure.TheVariants.{Absent as NoMeasure, Present as IsMeasure}
 use Rattle.meant.specs.Meant.{text_meant, whole_meant, measure_meant, id_meant, features_meant, meant_by, meant_of, meant_in, refused_in, refusal_of}
 use Rattle.meant.specs.Written.{attribute_of, attributes_of, child_of, children_of, written_in, written_of}
 use Rattle.meant.specs.Notices.{description, notice}
 
 -- fields
 abbrev part : ℕ → ℕ → Field
-part start len = a_words (IsWords (record { start = start; len = len }))
+part start len = a_words (Some (record { start = start; len = len }))
 
 abbrev int : ℕ → Field
-int n = a_whole (IsWhole n)
+int n = a_whole (Some n)
 
 abbrev size : ℕ → Field
-size n = a_measure (IsMeasure n 0)
+size n = a_measure (Some (record { millionths = n; decimals = 0 }))
 
 abbrev id : String → Field
-id s = a_guid (record { there = true; bytes = text s })
+id s = a_guid (Some (text s))
 
 abbrev supports : Bool → Bool → Bool → Field
-supports f q s = a_features (record { there = true; forecast = f; query = q; send = s })
+supports f q s = a_features (Some (record { forecast = f; query = q; send = s }))
 
 -- a message of kind k with these fields, whose texts are parts of t, is written as w
 abbrev Writes : ℕ → List Field → String → String → Type 0
@@ -63,7 +60,7 @@ pub board :
     "cptbwl"
     "<Hermes><BoardAvailable BoardId=\"01234567-89ab-cdef-0123-456789abcdef\" BoardIdCreatedBy=\"c\" FailedBoard=\"1\" ProductTypeId=\"p\" FlippedBoard=\"2\" TopBarcode=\"t\" BottomBarcode=\"b\" Length=\"1\" Width=\"2\" Thickness=\"0.5\" ConveyorSpeed=\"4\" TopClearanceHeight=\"5\" BottomClearanceHeight=\"6\" Weight=\"7\" WorkOrderId=\"w\" Route=\"900\" BatchId=\"l\"/></Hermes>"
     × Writes 3
-    (id "01234567-89ab-cdef-0123-456789abcdef" ∷ part 0 1 ∷ int 0 ∷ a_words NoWords ∷ int 0 ∷ a_words NoWords ∷ a_words NoWords ∷ a_measure NoMeasure ∷ a_measure NoMeasure ∷ a_measure NoMeasure ∷ a_measure NoMeasure ∷ a_measure NoMeasure ∷ a_measure NoMeasure ∷ a_measure NoMeasure ∷ a_words NoWords ∷ a_whole NoWhole ∷ a_words NoWords ∷ [])
+    (id "01234567-89ab-cdef-0123-456789abcdef" ∷ part 0 1 ∷ int 0 ∷ a_words None ∷ int 0 ∷ a_words None ∷ a_words None ∷ a_measure None ∷ a_measure None ∷ a_measure None ∷ a_measure None ∷ a_measure None ∷ a_measure None ∷ a_measure None ∷ a_words None ∷ a_whole None ∷ a_words None ∷ [])
     "c"
     "<Hermes><BoardAvailable BoardId=\"01234567-89ab-cdef-0123-456789abcdef\" BoardIdCreatedBy=\"c\" FailedBoard=\"0\" FlippedBoard=\"0\"/></Hermes>"
 unfolding message_from fields_of table attributes_of attribute_of children_of child_of escape escape_byte print_int digits_of print_decimal places behind_point drop_back keep_before with_zeros cells_of fields_from field_by words_by whole_by measure_by guid_by features_by
@@ -77,15 +74,15 @@ pub others :
     × Writes 8 (int 1 ∷ id "00000000-0000-0000-0000-00000000000a" ∷ []) "" "<Hermes><StopTransport TransferState=\"1\" BoardId=\"00000000-0000-0000-0000-00000000000a\"/></Hermes>"
     × Writes 9 (int 3 ∷ id "00000000-0000-0000-0000-00000000000a" ∷ []) "" "<Hermes><TransportFinished TransferState=\"3\" BoardId=\"00000000-0000-0000-0000-00000000000a\"/></Hermes>"
     × Writes 10 (int 1 ∷ part 0 0 ∷ []) "" "<Hermes><CheckAlive Type=\"1\" Id=\"\"/></Hermes>"
-    × Writes 10 (a_whole NoWhole ∷ a_words NoWords ∷ []) "" "<Hermes><CheckAlive/></Hermes>"
+    × Writes 10 (a_whole None ∷ a_words None ∷ []) "" "<Hermes><CheckAlive/></Hermes>"
 unfolding message_from fields_of table attributes_of attribute_of children_of child_of escape escape_byte print_int digits_of print_decimal places behind_point drop_back keep_before with_zeros cells_of fields_from field_by words_by whole_by measure_by guid_by features_by
 others = (refl, refl, refl, refl, refl, refl, refl, refl)
 
 -- order 6: "The writer pads to that many digits, never cutting a digit that matters."
 pub padding :
-    Writes 7 (id "00000000-0000-0000-0000-00000000000a" ∷ a_measure (IsMeasure 160000000 2) ∷ []) "" "<Hermes><StartTransport BoardId=\"00000000-0000-0000-0000-00000000000a\" ConveyorSpeed=\"160.00\"/></Hermes>"
-    × Writes 7 (id "00000000-0000-0000-0000-00000000000a" ∷ a_measure (IsMeasure 500000 0) ∷ []) "" "<Hermes><StartTransport BoardId=\"00000000-0000-0000-0000-00000000000a\" ConveyorSpeed=\"0.5\"/></Hermes>"
-    × Writes 7 (id "00000000-0000-0000-0000-00000000000a" ∷ a_measure (IsMeasure 1000000 6) ∷ []) "" "<Hermes><StartTransport BoardId=\"00000000-0000-0000-0000-00000000000a\" ConveyorSpeed=\"1.000000\"/></Hermes>"
+    Writes 7 (id "00000000-0000-0000-0000-00000000000a" ∷ a_measure (Some (record { millionths = 160000000; decimals = 2 })) ∷ []) "" "<Hermes><StartTransport BoardId=\"00000000-0000-0000-0000-00000000000a\" ConveyorSpeed=\"160.00\"/></Hermes>"
+    × Writes 7 (id "00000000-0000-0000-0000-00000000000a" ∷ a_measure (Some (record { millionths = 500000; decimals = 0 })) ∷ []) "" "<Hermes><StartTransport BoardId=\"00000000-0000-0000-0000-00000000000a\" ConveyorSpeed=\"0.5\"/></Hermes>"
+    × Writes 7 (id "00000000-0000-0000-0000-00000000000a" ∷ a_measure (Some (record { millionths = 1000000; decimals = 6 })) ∷ []) "" "<Hermes><StartTransport BoardId=\"00000000-0000-0000-0000-00000000000a\" ConveyorSpeed=\"1.000000\"/></Hermes>"
 unfolding message_from fields_of table attributes_of attribute_of children_of child_of escape escape_byte print_int digits_of print_decimal places behind_point drop_back keep_before with_zeros cells_of fields_from field_by words_by whole_by measure_by guid_by features_by
 padding = (refl, refl, refl)
 
@@ -143,9 +140,9 @@ texts = (refl, refl, refl, refl, refl, refl, refl, refl, refl, refl, refl)
 pub presence :
     (id_meant guid (text "00000000-0000-0000-0000-00000000000a") ≡ present (an_id (text "00000000-0000-0000-0000-00000000000a")))
     × (id_meant guid (text "00000000-0000-0000-0000-00000000000A") ≡ refused 6)
-    × (features_meant features (record { there = true; forecast = true; query = false; send = false }) ≡ present (noted true false false))
-    × (features_meant features (record { there = true; forecast = false; query = true; send = false }) ≡ present (noted false true false))
-    × (refusal_of (message_from 5 (a_whole NoWhole ∷ [])) [] ≡ 4)
+    × (features_meant features (record { forecast = true; query = false; send = false }) ≡ present (noted true false false))
+    × (features_meant features (record { forecast = false; query = true; send = false }) ≡ present (noted false true false))
+    × (refusal_of (message_from 5 (a_whole None ∷ [])) [] ≡ 4)
     × (refusal_of (message_from 8 (int 4 ∷ [])) [] ≡ 6)
     × (refusal_of (message_from 8 (int 3 ∷ [])) [] ≡ 4)
     × (refusal_of (message_from 10 []) [] ≡ 0)
@@ -160,10 +157,10 @@ abbrev a_board : Field
 a_board = id "00000000-0000-0000-0000-00000000000a"
 
 abbrev no_board : Field
-no_board = a_guid (record { there = false; bytes = [] })
+no_board = a_guid None
 
 pub with_another :
-    (refused_in info 1 (a_board ∷ a_words NoWords ∷ size 500000 ∷ []) (text "m") ≡ 4)
+    (refused_in info 1 (a_board ∷ a_words None ∷ size 500000 ∷ []) (text "m") ≡ 4)
     × (refused_in info 1 (a_board ∷ part 0 0 ∷ size 500000 ∷ []) (text "m") ≡ 6)
     × (refused_in info 1 (a_board ∷ part 0 1 ∷ size 500000 ∷ []) (text "m") ≡ 0)
     × (written_in info 1 (a_board ∷ part 0 1 ∷ size 500000 ∷ []) (text "m") ≡ text "<Hermes><Info BoardId=\"00000000-0000-0000-0000-00000000000a\" MadeBy=\"m\" Weight=\"0.5\"/></Hermes>")
@@ -171,7 +168,7 @@ unfolding meant_of meant_by guid_of filled may hex digit within is_text text_fro
 with_another = (refl, refl, refl, refl)
 
 pub without_another :
-    (refused_in info 1 (no_board ∷ a_words NoWords ∷ size 500000 ∷ []) [] ≡ 0)
+    (refused_in info 1 (no_board ∷ a_words None ∷ size 500000 ∷ []) [] ≡ 0)
     × (refused_in info 1 (no_board ∷ part 7 300 ∷ size 500000 ∷ []) [] ≡ 0)
     × (meant_in info 1 (no_board ∷ part 7 300 ∷ size 500000 ∷ []) [] ≡ absent ∷ absent ∷ present (millionths 500000 1) ∷ [])
     × (written_in info 1 (no_board ∷ part 7 300 ∷ size 500000 ∷ []) [] ≡ text "<Hermes><Info Weight=\"0.5\"/></Hermes>")

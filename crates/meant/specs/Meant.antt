@@ -1,5 +1,5 @@
 -- What a message to be sent means, field by field, and why it may be refused.
-use Rattle.std.specs.Prelude.{List, [], ◌∷◌, Bool, true, false, ◌&&◌, ◌||◌, cond, ℕ, ◌+◌, max, length, take, drop, leb}
+use Rattle.std.specs.Prelude.{List, [], ◌∷◌, Bool, true, false, ◌&&◌, ◌||◌, cond, ℕ, ◌+◌, max, length, take, drop, leb, Some, None}
 use Rattle.grammar.specs.Bytes.{Bytes, non_empty, within, same}
 use Rattle.number.specs.Positive.{BEHIND}
 use Rattle.number.specs.Guid.{guid_of}
@@ -7,13 +7,10 @@ use Rattle.number.specs.Version.{version_of}
 use Rattle.spelling.specs.Written.{matter}
 use Rattle.spelling.specs.Decided.{is_text}
 use Rattle.value.specs.declared.text.Span.{Span}
-use Rattle.value.specs.declared.text.Words.TheVariants.{Absent as NoWords, Present as IsWords}
 use Rattle.table.specs.Table.{Row, Form, words, some_words, whole, guid, version, positive, features, Entry, table, rows_in, settled}
 use Rattle.table.specs.Says.{a_text, an_int, millionths, an_id, noted, Result, present, refused, TOO_LONG, BAD, when, without, by_need, refusal_in, first}
 use Rattle.message.specs.Fields.{Field, none, a_words, a_whole, a_measure, a_guid, a_features}
 use Rattle.message.specs.Messages.{fields_of}
-use Rattle.message.specs.declared.values.Whole.TheVariants.{Absent as NoWhole, Present as IsWhole}
-use Rattle.message.specs.declared.values.Measure.TheVariants.{Absent as NoMeasure, Present as IsMeasure}
 use Rattle.message.specs.declared.values.Features.{Features}
 use Rattle.message.specs.declared.cells.Message.{Message}
 
@@ -79,14 +76,16 @@ features_meant features f = present (noted f.forecast f.query f.send)
 -- what a field means by a form, where it may be missing or not: a field of another form is none of the table's
 abbrev pub meant_as : Form → Field → Bytes → Bool → Result
 meant_as t none texts opt = refused BAD
-meant_as t (a_words NoWords) texts opt = without opt
-meant_as t (a_words (IsWords p)) texts opt = text_meant t texts p
-meant_as t (a_whole NoWhole) texts opt = without opt
-meant_as t (a_whole (IsWhole k)) texts opt = whole_meant t k
-meant_as t (a_measure NoMeasure) texts opt = without opt
-meant_as t (a_measure (IsMeasure x d)) texts opt = measure_meant t x d
-meant_as t (a_guid g) texts opt = cond g.there (id_meant t g.bytes) (without opt)
-meant_as t (a_features f) texts opt = cond f.there (features_meant t f) (without opt)
+meant_as t (a_words None) texts opt = without opt
+meant_as t (a_words (Some p)) texts opt = text_meant t texts p
+meant_as t (a_whole None) texts opt = without opt
+meant_as t (a_whole (Some k)) texts opt = whole_meant t k
+meant_as t (a_measure None) texts opt = without opt
+meant_as t (a_measure (Some d)) texts opt = measure_meant t d.millionths d.decimals
+meant_as t (a_guid None) texts opt = without opt
+meant_as t (a_guid (Some v)) texts opt = id_meant t v
+meant_as t (a_features None) texts opt = without opt
+meant_as t (a_features (Some f)) texts opt = features_meant t f
 
 -- what a field means in a row
 unfoldable pub meant_by : Row → Field → Bytes → Result
@@ -105,13 +104,14 @@ first_in (x ∷ l) = first (refusal_in x) (first_in l)
 -- a field that is there as an attribute
 abbrev pub is_given : Field → Bool
 is_given none = false
-is_given (a_words NoWords) = false
-is_given (a_words (IsWords p)) = true
-is_given (a_whole NoWhole) = false
-is_given (a_whole (IsWhole k)) = true
-is_given (a_measure NoMeasure) = false
-is_given (a_measure (IsMeasure x d)) = true
-is_given (a_guid g) = g.there
+is_given (a_words None) = false
+is_given (a_words (Some p)) = true
+is_given (a_whole None) = false
+is_given (a_whole (Some k)) = true
+is_given (a_measure None) = false
+is_given (a_measure (Some d)) = true
+is_given (a_guid None) = false
+is_given (a_guid (Some v)) = true
 is_given (a_features f) = false
 
 -- the attribute n is there

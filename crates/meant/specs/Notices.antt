@@ -1,11 +1,9 @@
 -- The Notifications that are sent before a connection ends.
-use Rattle.std.specs.Prelude.{[], ◌∷◌, ◌++◌, cond, ℕ, eqb, length}
+use Rattle.std.specs.Prelude.{[], ◌∷◌, ◌++◌, cond, ℕ, eqb, length, Some}
 use Rattle.lane.specs.Names.{Notification}
 use Rattle.grammar.specs.Bytes.{Bytes, text}
-use Rattle.value.specs.declared.text.Words.TheVariants.{Present as IsWords}
 use Rattle.message.specs.Fields.{a_words, a_whole}
 use Rattle.message.specs.Messages.{message_from}
-use Rattle.message.specs.declared.values.Whole.TheVariants.{Present as IsWhole}
 use Rattle.message.specs.declared.cells.Message.{Message}
 
 -- "D is `malformed message`, `message too long`, `missing attribute`, `text too long`, `bad value` or `invalid transition` for 2, 3, 4, 5, 6, 9"
@@ -24,4 +22,4 @@ notice n = text "<Hermes><Notification NotificationCode=\"1\" Severity=\"1\" Des
 
 -- the message that it is: code 1, severity 1, and the whole of the texts
 unfoldable pub notice_message : ℕ → Message
-notice_message n = message_from Notification (a_whole (IsWhole 1) ∷ a_whole (IsWhole 1) ∷ a_words (IsWords (record { start = 0; len = length (description n) })) ∷ [])
+notice_message n = message_from Notification (a_whole (Some 1) ∷ a_whole (Some 1) ∷ a_words (Some (record { start = 0; len = length (description n) })) ∷ [])

@@ -1,14 +1,11 @@
 -- The bytes that are written for a message.
-use Rattle.std.specs.Prelude.{List, [], ◌∷◌, ◌++◌, cond, ℕ}
+use Rattle.std.specs.Prelude.{List, [], ◌∷◌, ◌++◌, cond, ℕ, Some, None}
 use Rattle.grammar.specs.Bytes.{Bytes, text}
 use Rattle.number.specs.Digits.{print_int}
 use Rattle.spelling.specs.Written.{escape, print_decimal}
-use Rattle.value.specs.declared.text.Words.TheVariants.{Absent as NoWords, Present as IsWords}
 use Rattle.table.specs.Table.{Need, required, optional, required_with, ignored, Row, Entry, table, rows_in, name_in}
 use Rattle.message.specs.Fields.{Field, none, a_words, a_whole, a_measure, a_guid, a_features}
 use Rattle.message.specs.Messages.{fields_of}
-use Rattle.message.specs.declared.values.Whole.TheVariants.{Absent as NoWhole, Present as IsWhole}
-use Rattle.message.specs.declared.values.Measure.TheVariants.{Absent as NoMeasure, Present as IsMeasure}
 use Rattle.message.specs.declared.values.Features.{Features}
 use Rattle.message.specs.declared.cells.Message.{Message}
 use Rattle.meant.specs.Meant.{text_at, rows_with}
@@ -20,13 +17,14 @@ attribute n v = text " " ++ (n ++ (text "=\"" ++ (escape v ++ text "\"")))
 -- the attribute of a field, if it is there; features are a child
 unfoldable pub attribute_of : Bytes → Field → Bytes → Bytes
 attribute_of n none texts = []
-attribute_of n (a_words NoWords) texts = []
-attribute_of n (a_words (IsWords p)) texts = attribute n (text_at texts p)
-attribute_of n (a_whole NoWhole) texts = []
-attribute_of n (a_whole (IsWhole k)) texts = attribute n (print_int k)
-attribute_of n (a_measure NoMeasure) texts = []
-attribute_of n (a_measure (IsMeasure x d)) texts = attribute n (print_decimal x d)
-attribute_of n (a_guid g) texts = cond g.there (attribute n g.bytes) []
+attribute_of n (a_words None) texts = []
+attribute_of n (a_words (Some p)) texts = attribute n (text_at texts p)
+attribute_of n (a_whole None) texts = []
+attribute_of n (a_whole (Some k)) texts = attribute n (print_int k)
+attribute_of n (a_measure None) texts = []
+attribute_of n (a_measure (Some d)) texts = attribute n (print_decimal d.millionths d.decimals)
+attribute_of n (a_guid None) texts = []
+attribute_of n (a_guid (Some v)) texts = attribute n v
 attribute_of n (a_features f) texts = []
 
 -- "table order"
@@ -55,7 +53,8 @@ child_of n (a_words w) = []
 child_of n (a_whole w) = []
 child_of n (a_measure x) = []
 child_of n (a_guid g) = []
-child_of n (a_features f) = cond f.there (text "<" ++ (n ++ closed n (features_inside f))) []
+child_of n (a_features None) = []
+child_of n (a_features (Some f)) = text "<" ++ (n ++ closed n (features_inside f))
 
 unfoldable pub children_of : List Row → List Field → Bytes
 children_of [] l = []

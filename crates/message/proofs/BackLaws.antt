@@ -1,4 +1,6 @@
--- Fields laid into cells and taken from them again are the same. What is not there loses its bytes and its bits.
+-- Fields laid into cells and taken from them again are the same.
+use Rattle.std.specs.Prelude.{Option, Some, None}
+use Rattle.value.specs.declared.text.Span.{Span}
 use mathlib.Core.Path.{◌≡◌, refl, sym, ap, ◌∙◌}
 use mathlib.Core.List.{List, [], ◌∷◌, ◌++◌, append_assoc}
 use mathlib.Core.Bool.{Bool, true, false, not, cond}
@@ -10,17 +12,12 @@ use lib.Dec.{eqb}
 use Rattle.exact.specs.Chain.{clash}
 use Rattle.grammar.specs.Bytes.{Bytes}
 use Rattle.grammar.specs.Tree.{Tree}
-use Rattle.value.specs.Ids.{no_id}
-use Rattle.value.specs.declared.text.Words.{Words}
-use Rattle.value.specs.declared.text.Words.TheVariants.{Absent as NoWords, Present as IsWords}
 use Rattle.table.specs.Table.{Row, Form, words, some_words, whole, guid, version, positive, features, rows_of, is_guid}
-use Rattle.table.specs.Says.{Result, absent, present, refused, a_text, an_int, millionths, an_id, noted, tried}
-use Rattle.message.specs.Fields.{Field, none, a_words, a_whole, a_measure, a_guid, a_features, no_features, bare, bares, id_in, features_in, placed_by, field_for, fields_in}
-use Rattle.message.specs.Cells.{NUMBERS, is_there, words_by, whole_by, measure_by, guid_by, features_by, field_by, cell_at, fields_from, flag, cell_of, cells_of}
+use Rattle.table.specs.Says.{Result, tried}
+use Rattle.message.specs.Fields.{Field, none, a_words, a_whole, a_measure, a_guid, a_features, placed_by, field_for, fields_in}
+use Rattle.message.specs.Cells.{NUMBERS, words_by, whole_by, measure_by, guid_by, features_by, field_by, cell_at, fields_from, flag, cell_of, cells_of}
 use Rattle.message.specs.Messages.{with_zeros, bytes_in, id_among, message_from, fields_of, id_of}
 use Rattle.message.specs.Checked.{message_of}
-use Rattle.message.specs.declared.values.Whole.TheVariants.{Absent as NoWhole, Present as IsWhole}
-use Rattle.message.specs.declared.values.Measure.TheVariants.{Absent as NoMeasure, Present as IsMeasure}
 use Rattle.message.specs.declared.cells.Message.{Message}
 use Rattle.message.proofs.MessageLaws.{message_table}
 use Rattle.message.proofs.GuidLaws.{both, no_guid, one_guid, one_guid_lem}
@@ -97,32 +94,29 @@ some_sort features = omega arith
 abbrev read : ℕ → List ℕ → Bytes → Field
 read k cells id = field_by (form_for k) (cell_at cells 0) (cell_at cells 1) (cell_at cells 2) id
 
-cell_back : (x : Field) (id : Bytes) (rest : List ℕ) → 1 ≤ sort_in x → ids_in (x ∷ []) ≡ each (ids_in (x ∷ [])) id → read (sort_in x) (cell_of x ++ rest) id ≡ bare x
+cell_back : (x : Field) (id : Bytes) (rest : List ℕ) → 1 ≤ sort_in x → ids_in (x ∷ []) ≡ each (ids_in (x ∷ [])) id → read (sort_in x) (cell_of x ++ rest) id ≡ x
 unfolding field_by words_by whole_by measure_by guid_by features_by
 cell_back none id rest h e = absurd (omega arith)
-cell_back (a_words NoWords) id rest h e = refl
-cell_back (a_words (IsWords p)) id rest h e = refl
-cell_back (a_whole NoWhole) id rest h e = refl
-cell_back (a_whole (IsWhole n)) id rest h e = refl
-cell_back (a_measure NoMeasure) id rest h e = refl
-cell_back (a_measure (IsMeasure n d)) id rest h e = refl
-cell_back (a_guid g) id rest h e = go g.there g.bytes (ap (λ (l : List Bytes). get_or l 0 []) e)
+cell_back (a_words None) id rest h e = refl
+cell_back (a_words (Some p)) id rest h e = refl
+cell_back (a_whole None) id rest h e = refl
+cell_back (a_whole (Some n)) id rest h e = refl
+cell_back (a_measure None) id rest h e = refl
+cell_back (a_measure (Some d)) id rest h e = refl
+cell_back (a_guid None) id rest h e = refl
+cell_back (a_guid (Some v)) id rest h e = ap (λ (y : Bytes). a_guid (Some y)) (sym (ap (λ (l : List Bytes). get_or l 0 []) e))
+cell_back (a_features None) id rest h e = refl
+cell_back (a_features (Some f)) id rest h e = go f.forecast f.query f.send
   where
-    go : (b : Bool) (v : Bytes) → cond b v no_id.bytes ≡ id → a_guid (cond (is_there (flag b)) (record { there = true; bytes = id }) no_id) ≡ a_guid (cond b (record { there = b; bytes = v }) no_id)
-    go true v e = ap (λ (y : Bytes). a_guid (record { there = true; bytes = y })) (sym e)
-    go false v e = refl
-cell_back (a_features f) id rest h e = go f.there f.forecast f.query f.send
-  where
-    go : (b x y z : Bool) → a_features (features_by (flag b) (cond b (flag x + (2 * flag y + 4 * flag z)) 0)) ≡ a_features (cond b (record { there = b; forecast = x; query = y; send = z }) no_features)
-    go false x y z = refl
-    go true true true true = refl
-    go true true true false = refl
-    go true true false true = refl
-    go true true false false = refl
-    go true false true true = refl
-    go true false true false = refl
-    go true false false true = refl
-    go true false false false = refl
+    go : (x y z : Bool) → a_features (features_by 1 (flag x + (2 * flag y + 4 * flag z))) ≡ a_features (Some (record { forecast = x; query = y; send = z }))
+    go true true true = refl
+    go true true false = refl
+    go true false true = refl
+    go true false false = refl
+    go false true true = refl
+    go false true false = refl
+    go false false true = refl
+    go false false false = refl
 
 -- the cells behind others
 at_behind : (pre w : List ℕ) (k : ℕ) → get_or (pre ++ w) (length pre + k) 0 ≡ get_or w k 0
@@ -131,14 +125,16 @@ at_behind (x ∷ pre) w k = ap (λ (n : ℕ). get_or (x ∷ (pre ++ w)) n 0) (su
 
 pub cell_long : (x : Field) → length (cell_of x) ≡ 3
 cell_long none = refl
-cell_long (a_words NoWords) = refl
-cell_long (a_words (IsWords p)) = refl
-cell_long (a_whole NoWhole) = refl
-cell_long (a_whole (IsWhole n)) = refl
-cell_long (a_measure NoMeasure) = refl
-cell_long (a_measure (IsMeasure n d)) = refl
-cell_long (a_guid g) = refl
-cell_long (a_features f) = refl
+cell_long (a_words None) = refl
+cell_long (a_words (Some p)) = refl
+cell_long (a_whole None) = refl
+cell_long (a_whole (Some n)) = refl
+cell_long (a_measure None) = refl
+cell_long (a_measure (Some d)) = refl
+cell_long (a_guid None) = refl
+cell_long (a_guid (Some v)) = refl
+cell_long (a_features None) = refl
+cell_long (a_features (Some f)) = refl
 
 -- one field, then the others
 one_id : (x : Field) (l : List Field) (id : Bytes) → ids_in (x ∷ l) ≡ each (ids_in (x ∷ l)) id → (ids_in (x ∷ []) ≡ each (ids_in (x ∷ [])) id) × (ids_in l ≡ each (ids_in l) id)
@@ -150,7 +146,7 @@ one_id (a_guid g) l id e = (ap (λ (k : List Bytes). get_or k 0 [] ∷ []) e, ap
 one_id (a_features f) l id e = (refl, e)
 
 head_back : (F : Form) (x : Field) (i : ℕ) (id : Bytes) (pre rest : List ℕ) → length pre ≡ 3 * i → sort_of F ≡ sort_in x → ids_in (x ∷ []) ≡ each (ids_in (x ∷ [])) id
-    → field_by F (cell_at (pre ++ (cell_of x ++ rest)) (3 * i)) (cell_at (pre ++ (cell_of x ++ rest)) (3 * i + 1)) (cell_at (pre ++ (cell_of x ++ rest)) (3 * i + 2)) id ≡ bare x
+    → field_by F (cell_at (pre ++ (cell_of x ++ rest)) (3 * i)) (cell_at (pre ++ (cell_of x ++ rest)) (3 * i + 1)) (cell_at (pre ++ (cell_of x ++ rest)) (3 * i + 2)) id ≡ x
 head_back F x i id pre rest h s e =
     let w = cell_of x ++ rest in
     let p : 3 * i ≡ length pre + 0 = omega arith in
@@ -163,7 +159,7 @@ head_back F x i id pre rest h s e =
     ∙ cell_back x id rest (let z = some_sort F in omega arith) e
 
 all_back : (rows : List Row) (fields : List Field) (i : ℕ) (id : Bytes) (pre rest : List ℕ) → length pre ≡ 3 * i → sorts_of rows ≡ sorts_in fields → ids_in fields ≡ each (ids_in fields) id
-    → fields_from rows i (pre ++ (cells_of fields ++ rest)) id ≡ bares fields
+    → fields_from rows i (pre ++ (cells_of fields ++ rest)) id ≡ fields
 unfolding fields_from cells_of
 all_back [] [] i id pre rest h s e = refl
 all_back [] (x ∷ k) i id pre rest h s e = absurd (let z = ap length s in omega arith)
@@ -173,19 +169,19 @@ all_back (r ∷ l) (x ∷ k) i id pre rest h s e =
     let long : length (pre ++ cell_of x) ≡ 3 * (i + 1) = let a = length-append pre (cell_of x) in let b = cell_long x in omega arith in
     ap (λ (w : List ℕ). fields_from (r ∷ l) i (pre ++ w) id) (append_assoc (cell_of x) (cells_of k) rest)
     ∙ ap (λ (y : Field). y ∷ fields_from l (i + 1) (pre ++ (cell_of x ++ (cells_of k ++ rest))) id) (head_back r.form x i id pre (cells_of k ++ rest) h (ap (λ (l : List ℕ). get_or l 0 0) s) ids.0)
-    ∙ ap (λ (w : List ℕ). bare x ∷ fields_from l (i + 1) w id) (sym (append_assoc pre (cell_of x) (cells_of k ++ rest)))
-    ∙ ap (λ (y : List Field). bare x ∷ y) (all_back l k (i + 1) id (pre ++ cell_of x) rest long (ap (drop 1) s) ids.1)
+    ∙ ap (λ (w : List ℕ). x ∷ fields_from l (i + 1) w id) (sym (append_assoc pre (cell_of x) (cells_of k ++ rest)))
+    ∙ ap (λ (y : List Field). x ∷ y) (all_back l k (i + 1) id (pre ++ cell_of x) rest long (ap (drop 1) s) ids.1)
 
-pub fields_back : (rows : List Row) (fields : List Field) (id : Bytes) (rest : List ℕ) → Fits rows fields id → fields_from rows 0 (cells_of fields ++ rest) id ≡ bares fields
+pub fields_back : (rows : List Row) (fields : List Field) (id : Bytes) (rest : List ℕ) → Fits rows fields id → fields_from rows 0 (cells_of fields ++ rest) id ≡ fields
 fields_back rows fields id rest f = all_back rows fields 0 id [] rest refl f.sorts f.ids
 
 -- a message made of fields that fit its kind has these fields
-pub made_back : (k : ℕ) (l : List Field) → Fits (rows_of k) l (id_among l) → fields_of (message_from k l) ≡ bares l
+pub made_back : (k : ℕ) (l : List Field) → Fits (rows_of k) l (id_among l) → fields_of (message_from k l) ≡ l
 unfolding fields_of message_from with_zeros
 made_back k l f = fields_back (rows_of k) l (id_among l) (drop (length (cells_of l)) (replicate NUMBERS 0)) f
 
--- what a reading hands out fits, and is bare
-pub handed_sort : (t : Form) (w : Words) (x : Result) → sort_in (field_for t w x) ≡ sort_of t
+-- what a reading hands out fits
+pub handed_sort : (t : Form) (w : Option Span) (x : Result) → sort_in (field_for t w x) ≡ sort_of t
 unfolding field_for
 handed_sort (words n) w x = refl
 handed_sort (some_words n) w x = refl
@@ -195,43 +191,10 @@ handed_sort version w x = refl
 handed_sort positive w x = refl
 handed_sort features w x = refl
 
-handed_sorts : (rows : List Row) (place : Bytes → Words) (t : Tree) → sorts_of rows ≡ sorts_in (fields_in rows place t)
+handed_sorts : (rows : List Row) (place : Bytes → Option Span) (t : Tree) → sorts_of rows ≡ sorts_in (fields_in rows place t)
 unfolding fields_in
 handed_sorts [] place t = refl
 handed_sorts (r ∷ rows) place t = rw (handed_sort r.form (placed_by r.need (place r.name)) (tried r t), ← handed_sorts rows place t)
-
-bare_id : (x : Result) → a_guid (cond (id_in x).there (id_in x) no_id) ≡ a_guid (id_in x)
-bare_id absent = refl
-bare_id (refused n) = refl
-bare_id (present (a_text v)) = refl
-bare_id (present (an_int n)) = refl
-bare_id (present (millionths n d)) = refl
-bare_id (present (an_id v)) = refl
-bare_id (present (noted a b c)) = refl
-
-bare_features : (x : Result) → a_features (cond (features_in x).there (features_in x) no_features) ≡ a_features (features_in x)
-bare_features absent = refl
-bare_features (refused n) = refl
-bare_features (present (a_text v)) = refl
-bare_features (present (an_int n)) = refl
-bare_features (present (millionths n d)) = refl
-bare_features (present (an_id v)) = refl
-bare_features (present (noted a b c)) = refl
-
-handed_bare : (t : Form) (w : Words) (x : Result) → bare (field_for t w x) ≡ field_for t w x
-unfolding field_for
-handed_bare (words n) w x = refl
-handed_bare (some_words n) w x = refl
-handed_bare (whole lo hi) w x = refl
-handed_bare guid w x = bare_id x
-handed_bare version w x = refl
-handed_bare positive w x = refl
-handed_bare features w x = bare_features x
-
-handed_bares : (rows : List Row) (place : Bytes → Words) (t : Tree) → bares (fields_in rows place t) ≡ fields_in rows place t
-unfolding fields_in
-handed_bares [] place t = refl
-handed_bares (r ∷ rows) place t = rw (handed_bare r.form (placed_by r.need (place r.name)) (tried r t), handed_bares rows place t)
 
 -- fields of rows of which one at most is a GUID
 pub ids_next : (F : Form) (x : Field) (l : List Field) → sort_of F ≡ sort_in x → is_guid F ≡ false → (ids_in (x ∷ l) ≡ ids_in l) × (id_among (x ∷ l) ≡ id_among l)
@@ -307,13 +270,12 @@ pub fits_kind : (k : ℕ) (l : List Field) → sorts_of (rows_of k) ≡ sorts_in
 fits_kind k l s = record { sorts = s; ids = one_id_among (rows_of k) l s (one_guid_lem k) }
 
 -- so the fields of a message that is handed out are those of its reading
-pub handed_back : (k : ℕ) (place : Bytes → Words) (t : Tree) → fields_of (message_of k place t) ≡ fields_in (rows_of k) place t
+pub handed_back : (k : ℕ) (place : Bytes → Option Span) (t : Tree) → fields_of (message_of k place t) ≡ fields_in (rows_of k) place t
 handed_back k place t =
     ap fields_of (message_table k place t)
     ∙ made_back k (fields_in (rows_of k) place t) (fits_kind k (fields_in (rows_of k) place t) (handed_sorts (rows_of k) place t))
-    ∙ handed_bares (rows_of k) place t
 
 -- and so is its BoardId
-pub handed_id : (k : ℕ) (place : Bytes → Words) (t : Tree) → id_of (message_of k place t) ≡ id_among (fields_in (rows_of k) place t)
+pub handed_id : (k : ℕ) (place : Bytes → Option Span) (t : Tree) → id_of (message_of k place t) ≡ id_among (fields_in (rows_of k) place t)
 unfolding id_of
 handed_id k place t = ap id_among (handed_back k place t)

@@ -1,4 +1,5 @@
 -- At most one row of a kind is a GUID; its cell, and the BoardId among fields.
+use Rattle.std.specs.Prelude.{Some, None}
 use mathlib.Core.Path.{◌≡◌, refl, sym, ap, ◌∙◌}
 use mathlib.Core.List.{List, [], ◌∷◌}
 use mathlib.Core.Bool.{Bool, true, false, ◌&&◌, not, cond}
@@ -9,7 +10,7 @@ use lib.Dec.{leb}
 use borrow.Author.Tests.{leb-true, lt-leb}
 use Rattle.exact.specs.Chain.{clash}
 use Rattle.grammar.specs.Bytes.{Bytes}
-use Rattle.value.specs.Ids.{no_id}
+use Rattle.value.specs.Ids.{no_bytes}
 use Rattle.table.specs.Table.{Row, Form, words, some_words, whole, guid, version, positive, features, table, rows_of, is_guid, guid_cell_in}
 use Rattle.table.specs.Theorems.{each_rows}
 use Rattle.message.specs.Fields.{Field}
@@ -60,17 +61,17 @@ cell_in k h = go (no_guid (rows_of k)) refl
     go false e = leb-true _ _ (sym (ap (λ (b : Bool). cond b (leb NUMBERS (guid_cell_in NUMBERS (rows_of k) 0)) (leb (guid_cell_in NUMBERS (rows_of k) 0 + 3) NUMBERS)) e) ∙ all_celled k)
 
 -- the id of a cell
-id_here : (t : ℕ) (id : Bytes) → bytes_in (guid_by t id) ≡ cond (is_there t) id no_id.bytes
+id_here : (t : ℕ) (id : Bytes) → bytes_in (guid_by t id) ≡ cond (is_there t) id no_bytes
 unfolding guid_by
 id_here t id = go (is_there t)
   where
-    go : (b : Bool) → bytes_in (cond b (record { there = true; bytes = id }) no_id) ≡ cond b id no_id.bytes
+    go : (b : Bool) → bytes_in (cond b (Some id) None) ≡ cond b id no_bytes
     go true = refl
     go false = refl
 
 -- the id among the fields of cells is the given one, if there is a cell for it, and it is there
 module _ (cells : List ℕ) (id : Bytes) where
-  one_field : (F : Form) (t a b : ℕ) (l : List Field) → id_among (field_by F t a b id ∷ l) ≡ cond (is_guid F) (cond (is_there t) id no_id.bytes) (id_among l)
+  one_field : (F : Form) (t a b : ℕ) (l : List Field) → id_among (field_by F t a b id ∷ l) ≡ cond (is_guid F) (cond (is_there t) id no_bytes) (id_among l)
   unfolding field_by
   one_field (words n) t a b l = refl
   one_field (some_words n) t a b l = refl
@@ -85,7 +86,7 @@ module _ (cells : List ℕ) (id : Bytes) where
   among_cells [] i h = refl
   among_cells (r ∷ rows) i h = one_field r.form _ _ _ (fields_from rows (i + 1) cells id) ∙ go (is_guid r.form) (among_cells rows (i + 1) (omega arith))
     where
-      go : (b : Bool) → id_among (fields_from rows (i + 1) cells id) ≡ id_by (guid_cell_in NUMBERS rows (i + 1)) cells id → cond b (cond (is_there (cell_at cells (3 * i))) id no_id.bytes) (id_among (fields_from rows (i + 1) cells id)) ≡ id_by (cond b (3 * i) (guid_cell_in NUMBERS rows (i + 1))) cells id
+      go : (b : Bool) → id_among (fields_from rows (i + 1) cells id) ≡ id_by (guid_cell_in NUMBERS rows (i + 1)) cells id → cond b (cond (is_there (cell_at cells (3 * i))) id no_bytes) (id_among (fields_from rows (i + 1) cells id)) ≡ id_by (cond b (3 * i) (guid_cell_in NUMBERS rows (i + 1))) cells id
       go true e = rw (lt-leb NUMBERS (3 * i) (omega arith))
       go false e = e
 

@@ -1,4 +1,5 @@
 -- What stands where a message's values are said to stand.
+use Rattle.std.specs.Prelude.{Some, None}
 use mathlib.Core.Path.{◌≡◌, refl, sym, ap, subst, ◌∙◌}
 use mathlib.Core.List.{List}
 use mathlib.Core.Bool.{Bool}
@@ -13,7 +14,6 @@ use Rattle.grammar.specs.Message.{Layout, plain, declared, GoodLayout, good_plai
 use Rattle.grammar.specs.Places.{child_of as inner, tag_in, lead, inside_from}
 use Rattle.model.specs.Standing.{Parts, laid_parts}
 use Rattle.value.specs.declared.text.Span.{Span}
-use Rattle.value.specs.declared.text.Words.TheVariants.{Absent, Present}
 use Rattle.table.specs.Table.{Form}
 use Rattle.table.specs.Says.{child_of, children_of, name_of, without, given}
 use Rattle.message.specs.Checked.{places_in}
@@ -62,11 +62,11 @@ module _ (s : Bytes) (start end : ℕ) (l : Layout) (w : Laid (take (end - start
   stands : (rest : Bytes) × Parts s (inner l) at to (inside_from to (inner l)) rest
   stands = laid_parts s start end l w (record { starts = refl; ends = refl; counts = refl; behind = refl })
 
-  pub there_reads : (n : Bytes) (p : Span) → places_in start l n ≡ Present p → ReadsAt s n (attributes_of (child_of (read_layout l))) p
+  pub there_reads : (n : Bytes) (p : Span) → places_in start l n ≡ Some p → ReadsAt s n (attributes_of (child_of (read_layout l))) p
   there_reads n p e = subst (λ (a : List Pair). ReadsAt s n a p) (sym (attributes_read l)) (reads_at s to here stands.1.after (good_tag (good_inner w.good)).attributes.each stands.1.attributes n p e)
 
-  pub absent_not : (n : Bytes) → places_in start l n ≡ Absent → (v : Bytes) → Has n v (attributes_of (child_of (read_layout l))) → ⊥
+  pub absent_not : (n : Bytes) → places_in start l n ≡ None → (v : Bytes) → Has n v (attributes_of (child_of (read_layout l))) → ⊥
   absent_not n e v h = not_there to here n e v (subst (λ (a : List Pair). Has n v a) (attributes_read l) h)
 
-  pub absent_worth : (n : Bytes) → places_in start l n ≡ Absent → (t : Form) (o : Bool) → given t o n (attributes_of (child_of (read_layout l))) ≡ without o
+  pub absent_worth : (n : Bytes) → places_in start l n ≡ None → (t : Form) (o : Bool) → given t o n (attributes_of (child_of (read_layout l))) ≡ without o
   absent_worth n e t o = ap (given t o n) (attributes_read l) ∙ missing_at to here n e t o

@@ -1,4 +1,6 @@
 -- Messages put together.
+use Rattle.std.specs.Prelude.{Option}
+use Rattle.value.specs.declared.text.Span.{Span}
 use mathlib.Core.Path.{◌≡◌, refl, sym, ap, ◌∙◌}
 use mathlib.Core.List.{List, []}
 use mathlib.Core.Bool.{Bool, true, cond}
@@ -7,7 +9,6 @@ use borrow.Author.Tests.{ne_eqb, eq-eqb}
 use Rattle.exact.specs.Chain.{clash}
 use Rattle.grammar.specs.Bytes.{Bytes}
 use Rattle.grammar.specs.Tree.{Tree}
-use Rattle.value.specs.declared.text.Words.{Words}
 use Rattle.table.specs.Table.{Need, required, optional, required_with, ignored, Row, rows_of}
 use Rattle.table.specs.Theorems.{plain_need, rows_table}
 use Rattle.message.specs.Fields.{placed_by, fields_in}
@@ -23,14 +24,14 @@ unfolding message_from with_zeros cells_of
 none_there k = refl
 
 -- of plain rows, every text has its place
-pub plain_placed : (n : Need) (w : Words) → plain_need n ≡ true → placed_by n w ≡ w
+pub plain_placed : (n : Need) (w : Option Span) → plain_need n ≡ true → placed_by n w ≡ w
 plain_placed required w h = refl
 plain_placed optional w h = refl
 plain_placed (required_with m) w h = clash (sym h)
 plain_placed ignored w h = clash (sym h)
 
 -- and the rows of document 01 stand as they are
-pub message_table : (k : ℕ) (place : Bytes → Words) (t : Tree) → message_of k place t ≡ message_from k (fields_in (rows_of k) place t)
+pub message_table : (k : ℕ) (place : Bytes → Option Span) (t : Tree) → message_of k place t ≡ message_from k (fields_in (rows_of k) place t)
 message_table k place t = ap (λ (rows : List Row). message_from k (fields_in rows place t)) (rows_table k t)
 
 abbrev answered : ℕ → ℕ → ℕ → Message → Checked

@@ -1,4 +1,5 @@
 -- Where the attributes of an element stand, and what they are worth.
+use Rattle.std.specs.Prelude.{Some, None}
 use mathlib.Core.Path.{◌≡◌, refl, sym, ap, subst, ◌∙◌}
 use mathlib.Core.List.{List, [], ◌∷◌, ◌++◌}
 use mathlib.Core.Bool.{Bool, true, false, cond}
@@ -15,7 +16,6 @@ use Rattle.grammar.specs.Places.{value_at, value_end}
 use Rattle.model.specs.Standing.{attribute_stands}
 use Rattle.value.specs.Text.{Text}
 use Rattle.value.specs.declared.text.Span.{Span}
-use Rattle.value.specs.declared.text.Words.TheVariants.{Absent, Present}
 use Rattle.table.specs.Table.{Form}
 use Rattle.table.specs.Says.{judged, without, given}
 use Rattle.message.specs.Checked.{place_of}
@@ -37,7 +37,7 @@ attribute_in s at a l y e =
     omega arith
 
 -- at the place of a name stands its raw value
-pub reads_at : (s : Bytes) (at : ℕ) (l : List Attribute) (after : Bytes) → GoodEach l → drop at s ≡ spell_attributes l ++ after → (n : Bytes) (p : Span) → place_of at l n ≡ Present p → ReadsAt s n (read_attributes l) p
+pub reads_at : (s : Bytes) (at : ℕ) (l : List Attribute) (after : Bytes) → GoodEach l → drop at s ≡ spell_attributes l ++ after → (n : Bytes) (p : Span) → place_of at l n ≡ Some p → ReadsAt s n (read_attributes l) p
 unfolding place_of
 reads_at s at [] after g e n p h = absurd (let z : ◌≡◌ {A = ℕ} 0 1 = cc in omega arith)
 reads_at s at (a ∷ l) after (good_each ga gl) e n p h = go (same n a.name) refl h (λ k. reads_at s (value_end at a + 1) l after gl (attribute_stands s at a l after e).next n p k)
@@ -50,29 +50,29 @@ reads_at s at (a ∷ l) after (good_each ga gl) e n p h = go (same n a.name) ref
         let q : value_end at a - value_at at a ≡ length (spell_value a.value) = omega arith in
         record { quote = a.quote; quoted = ga.quote; items = a.value; good = ga.value; spelt = subst (λ (m : ℕ). take m (drop (value_at at a) s) ≡ spell_value a.value) q (attribute_stands s at a l after e).value; reads = refl }
 
-    go : (z : Bool) → same n a.name ≡ z → cond z (Present span) (place_of (value_end at a + 1) l n) ≡ Present p → (place_of (value_end at a + 1) l n ≡ Present p → ReadsAt s n (read_attributes l) p) → ReadsAt s n (read_attributes (a ∷ l)) p
+    go : (z : Bool) → same n a.name ≡ z → cond z (Some span) (place_of (value_end at a + 1) l n) ≡ Some p → (place_of (value_end at a + 1) l n ≡ Some p → ReadsAt s n (read_attributes l) p) → ReadsAt s n (read_attributes (a ∷ l)) p
     go true f k r =
         let q : span ≡ p = cc in
         subst (λ (p : Span). ReadsAt s n (read_attributes (a ∷ l)) p) q (record { value = read_value a.value; inside = let z = attribute_in s at a l after e in omega arith; text = here; has = has_here f refl })
     go false f k r = let x = r k in record { value = x.value; inside = x.inside; text = x.text; has = has_later f x.has }
 
-pub not_there : (at : ℕ) (l : List Attribute) (n : Bytes) → place_of at l n ≡ Absent → (v : Bytes) → Has n v (read_attributes l) → ⊥
+pub not_there : (at : ℕ) (l : List Attribute) (n : Bytes) → place_of at l n ≡ None → (v : Bytes) → Has n v (read_attributes l) → ⊥
 unfolding place_of
 not_there at [] n h v x = elim x [ ]
-not_there at (a ∷ l) n h v (has_here f e) = let z : Present (record { start = value_at at a; len = length (spell_value a.value) }) ≡ Absent = ap (λ (z : Bool). cond z (Present (record { start = value_at at a; len = length (spell_value a.value) })) (place_of (value_end at a + 1) l n)) (sym f) ∙ h in let y : ◌≡◌ {A = ℕ} 0 1 = cc in omega arith
-not_there at (a ∷ l) n h v (has_later f k) = not_there (value_end at a + 1) l n (ap (λ (z : Bool). cond z (Present (record { start = value_at at a; len = length (spell_value a.value) })) (place_of (value_end at a + 1) l n)) (sym f) ∙ h) v k
+not_there at (a ∷ l) n h v (has_here f e) = let z : Some (record { start = value_at at a; len = length (spell_value a.value) }) ≡ None = ap (λ (z : Bool). cond z (Some (record { start = value_at at a; len = length (spell_value a.value) })) (place_of (value_end at a + 1) l n)) (sym f) ∙ h in let y : ◌≡◌ {A = ℕ} 0 1 = cc in omega arith
+not_there at (a ∷ l) n h v (has_later f k) = not_there (value_end at a + 1) l n (ap (λ (z : Bool). cond z (Some (record { start = value_at at a; len = length (spell_value a.value) })) (place_of (value_end at a + 1) l n)) (sym f) ∙ h) v k
 
 -- what the attribute of a name is worth, if it is there or not
 pub has_worth : {n v : Bytes} {l : List Pair} → Has n v l → (t : Form) (o : Bool) → given t o n l ≡ judged t v
 has_worth {n} {v} (has_here {p} {l} f e) t o = ap (λ (z : Bool). cond z (judged t p.value) (given t o n l)) f ∙ ap (judged t) (sym e)
 has_worth {n} {v} (has_later {p} {l} f h) t o = ap (λ (z : Bool). cond z (judged t p.value) (given t o n l)) f ∙ has_worth h t o
 
-pub missing_at : (at : ℕ) (l : List Attribute) (name : Bytes) → place_of at l name ≡ Absent → (t : Form) (o : Bool) → given t o name (read_attributes l) ≡ without o
+pub missing_at : (at : ℕ) (l : List Attribute) (name : Bytes) → place_of at l name ≡ None → (t : Form) (o : Bool) → given t o name (read_attributes l) ≡ without o
 unfolding place_of
 missing_at at [] name h t o = refl
 missing_at at (a ∷ l) name h t o = go (same name a.name) refl h (λ k. missing_at (value_end at a + 1) l name k t o)
   where
-    go : (z : Bool) → same name a.name ≡ z → cond z (Present (record { start = value_at at a; len = length (spell_value a.value) })) (place_of (value_end at a + 1) l name) ≡ Absent
-        → (place_of (value_end at a + 1) l name ≡ Absent → given t o name (read_attributes l) ≡ without o) → given t o name (read_attributes (a ∷ l)) ≡ without o
+    go : (z : Bool) → same name a.name ≡ z → cond z (Some (record { start = value_at at a; len = length (spell_value a.value) })) (place_of (value_end at a + 1) l name) ≡ None
+        → (place_of (value_end at a + 1) l name ≡ None → given t o name (read_attributes l) ≡ without o) → given t o name (read_attributes (a ∷ l)) ≡ without o
     go true f k r = absurd (let z : ◌≡◌ {A = ℕ} 0 1 = cc in omega arith)
     go false f k r = ap (λ (z : Bool). cond z (judged t (read_value a.value)) (given t o name (read_attributes l))) f ∙ r k

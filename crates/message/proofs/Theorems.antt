@@ -1,4 +1,6 @@
 -- What the promises of `check` and `check_into` determine, and that what is handed out is the one reading's.
+use Rattle.std.specs.Prelude.{Option}
+use Rattle.value.specs.declared.text.Span.{Span}
 use mathlib.Core.Path.{◌≡◌, refl, sym, ap, subst, ◌∙◌}
 use mathlib.Core.List.{List}
 use mathlib.Core.Bool.{Bool, true, false, cond}
@@ -13,8 +15,7 @@ use Rattle.grammar.specs.Message.{Layout, Laid, read_layout}
 use Rattle.grammar.specs.Answer.{Answer as PaperAnswer, Answers, ends_at, more_from, malformed_at, too_long_from}
 use Rattle.model.proofs.Theorems.{one_layout, one_reading, answers_only}
 use Rattle.table.specs.Table.{Entry}
-use Rattle.value.specs.Ids.{no_id}
-use Rattle.value.specs.declared.text.Words.{Words}
+use Rattle.value.specs.Ids.{no_bytes}
 use Rattle.table.specs.Says.{child_of, said_in, said_of}
 use Rattle.message.specs.Checked.{unread, message_in, places_in, message_of, checked_in, ChecksBy, Checks, ends, more, malformed, too_long, handed_by, ChecksInto}
 use Rattle.message.specs.Handed.{HandedBy}
@@ -69,15 +70,15 @@ handed_out (more start p e) h = absurd (let z = sym (ap (λ (r : Checked). r.ref
 handed_out (malformed start place p e) h = absurd (let z = sym (ap (λ (r : Checked). r.refusal) e) ∙ h in omega arith)
 handed_out (too_long start p e) h = absurd (let z = sym (ap (λ (r : Checked). r.refusal) e) ∙ h in omega arith)
 
-blank_named : (k : ℕ) → no_id.bytes ≡ id_of (blank k)
-blank_named k = sym (id_of_cells (replicate NUMBERS 0) no_id.bytes k ∙ go (leb NUMBERS (id_cell k)) (is_there (cell_at (replicate NUMBERS 0) (id_cell k))))
+blank_named : (k : ℕ) → no_bytes ≡ id_of (blank k)
+blank_named k = sym (id_of_cells (replicate NUMBERS 0) no_bytes k ∙ go (leb NUMBERS (id_cell k)) (is_there (cell_at (replicate NUMBERS 0) (id_cell k))))
   where
-    go : (a b : Bool) → cond a no_id.bytes (cond b no_id.bytes no_id.bytes) ≡ no_id.bytes
+    go : (a b : Bool) → cond a no_bytes (cond b no_bytes no_bytes) ≡ no_bytes
     go true b = refl
     go false true = refl
     go false false = refl
 
-message_named : (k : ℕ) (place : Bytes → Words) (t : Tree) → (message_of k place t).id ≡ id_of (message_of k place t)
+message_named : (k : ℕ) (place : Bytes → Option Span) (t : Tree) → (message_of k place t).id ≡ id_of (message_of k place t)
 unfolding message_from
 message_named k place t = ap (λ (m : Message). m.id) (message_table k place t) ∙ sym (handed_id k place t)
 

@@ -1,18 +1,12 @@
 -- The values of a message as numbers: a cell of three for each row of its kind, in table order, and apart from them its BoardId. The first number of a
 -- cell is 0 if the value is absent. Then follow: of a text its place and its length; of an int its value; of a positive number its millionths and
 -- the digits behind its point; of the features their bits 1, 2 and 4.
-use Rattle.std.specs.Prelude.{List, [], ◌∷◌, ◌++◌, Bool, true, ◌&&◌, not, cond, ℕ, ◌+◌, ◌*◌, ◌/◌, ◌%◌, get_or, eqb}
+use Rattle.value.specs.declared.text.Span.{Span}
+use Rattle.message.specs.declared.values.Decimal.{Decimal}
+use Rattle.std.specs.Prelude.{List, [], ◌∷◌, ◌++◌, Bool, not, cond, ℕ, ◌+◌, ◌*◌, ◌/◌, ◌%◌, get_or, eqb, Option, Some, None}
 use Rattle.grammar.specs.Bytes.{Bytes}
-use Rattle.value.specs.Ids.{no_id}
-use Rattle.value.specs.declared.id.Guid.{Guid}
-use Rattle.value.specs.declared.text.Words.{Words}
-use Rattle.value.specs.declared.text.Words.TheVariants.{Absent as NoWords, Present as IsWords}
 use Rattle.table.specs.Table.{Row, Form, words, some_words, whole, guid, version, positive, features}
 use Rattle.message.specs.Fields.{Field, none, a_words, a_whole, a_measure, a_guid, a_features}
-use Rattle.message.specs.declared.values.Whole.{Whole}
-use Rattle.message.specs.declared.values.Whole.TheVariants.{Absent as NoWhole, Present as IsWhole}
-use Rattle.message.specs.declared.values.Measure.{Measure}
-use Rattle.message.specs.declared.values.Measure.TheVariants.{Absent as NoMeasure, Present as IsMeasure}
 use Rattle.message.specs.declared.values.Features.{Features}
 
 -- how many rows a kind can have, and how many numbers that makes
@@ -30,20 +24,20 @@ is_there t = not (eqb t 0)
 abbrev pub bit : ℕ → Bool
 bit n = is_there (n % 2)
 
-unfoldable pub words_by : ℕ → ℕ → ℕ → Words
-words_by t a b = cond (is_there t) (IsWords (record { start = a; len = b })) NoWords
+unfoldable pub words_by : ℕ → ℕ → ℕ → Option Span
+words_by t a b = cond (is_there t) (Some (record { start = a; len = b })) None
 
-unfoldable pub whole_by : ℕ → ℕ → Whole
-whole_by t a = cond (is_there t) (IsWhole a) NoWhole
+unfoldable pub whole_by : ℕ → ℕ → Option ℕ
+whole_by t a = cond (is_there t) (Some a) None
 
-unfoldable pub measure_by : ℕ → ℕ → ℕ → Measure
-measure_by t a b = cond (is_there t) (IsMeasure a b) NoMeasure
+unfoldable pub measure_by : ℕ → ℕ → ℕ → Option Decimal
+measure_by t a b = cond (is_there t) (Some (record { millionths = a; decimals = b })) None
 
-unfoldable pub guid_by : ℕ → Bytes → Guid
-guid_by t id = cond (is_there t) (record { there = true; bytes = id }) no_id
+unfoldable pub guid_by : ℕ → Bytes → Option Bytes
+guid_by t id = cond (is_there t) (Some id) None
 
-unfoldable pub features_by : ℕ → ℕ → Features
-features_by t a = record { there = is_there t; forecast = is_there t && bit a; query = is_there t && bit (a / 2); send = is_there t && bit (a / 4) }
+unfoldable pub features_by : ℕ → ℕ → Option Features
+features_by t a = cond (is_there t) (Some (record { forecast = bit a; query = bit (a / 2); send = bit (a / 4) })) None
 
 -- the field of a form that three numbers and the id are
 unfoldable pub field_by : Form → ℕ → ℕ → ℕ → Bytes → Field
@@ -69,24 +63,25 @@ fields_from (r ∷ l) i cells id = field_by r.form (cell_at cells (3 * i)) (cell
 abbrev pub flag : Bool → ℕ
 flag b = cond b 1 0
 
-abbrev pub words_cell : Words → List ℕ
-words_cell NoWords = 0 ∷ 0 ∷ 0 ∷ []
-words_cell (IsWords p) = 1 ∷ p.start ∷ p.len ∷ []
+abbrev pub words_cell : Option Span → List ℕ
+words_cell None = 0 ∷ 0 ∷ 0 ∷ []
+words_cell (Some p) = 1 ∷ p.start ∷ p.len ∷ []
 
-abbrev pub whole_cell : Whole → List ℕ
-whole_cell NoWhole = 0 ∷ 0 ∷ 0 ∷ []
-whole_cell (IsWhole n) = 1 ∷ n ∷ 0 ∷ []
+abbrev pub whole_cell : Option ℕ → List ℕ
+whole_cell None = 0 ∷ 0 ∷ 0 ∷ []
+whole_cell (Some n) = 1 ∷ n ∷ 0 ∷ []
 
-abbrev pub measure_cell : Measure → List ℕ
-measure_cell NoMeasure = 0 ∷ 0 ∷ 0 ∷ []
-measure_cell (IsMeasure n d) = 1 ∷ n ∷ d ∷ []
+abbrev pub measure_cell : Option Decimal → List ℕ
+measure_cell None = 0 ∷ 0 ∷ 0 ∷ []
+measure_cell (Some d) = 1 ∷ d.millionths ∷ d.decimals ∷ []
 
-abbrev pub guid_cell : Guid → List ℕ
-guid_cell g = flag g.there ∷ 0 ∷ 0 ∷ []
+abbrev pub guid_cell : Option Bytes → List ℕ
+guid_cell None = 0 ∷ 0 ∷ 0 ∷ []
+guid_cell (Some v) = 1 ∷ 0 ∷ 0 ∷ []
 
--- features that are absent have no bits
-abbrev pub features_cell : Features → List ℕ
-features_cell f = flag f.there ∷ cond f.there (flag f.forecast + (2 * flag f.query + 4 * flag f.send)) 0 ∷ 0 ∷ []
+abbrev pub features_cell : Option Features → List ℕ
+features_cell None = 0 ∷ 0 ∷ 0 ∷ []
+features_cell (Some f) = 1 ∷ (flag f.forecast + (2 * flag f.query + 4 * flag f.send)) ∷ 0 ∷ []
 
 abbrev pub cell_of : Field → List ℕ
 cell_of none = 0 ∷ 0 ∷ 0 ∷ []

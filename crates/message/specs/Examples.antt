@@ -1,5 +1,6 @@
 -- Worked examples: what each attribute hands out, and what the answers are. They hold by computation.
-use Rattle.std.specs.Prelude.{◌≡◌, refl, List, [], ◌∷◌, true, false, length, replicate}
+use Rattle.value.specs.declared.text.Span.{Span}
+use Rattle.std.specs.Prelude.{◌≡◌, refl, List, [], ◌∷◌, true, false, length, replicate, Option, Some, None}
 use Prim.Native.String.{String}
 use Rattle.number.specs.Bytes.{blank, digit, hex, non_empty, all, drop_front, keep_before, drop_back, trim, value_from, before, behind}
 use Rattle.number.specs.Whole.{sized, signed, int_of}
@@ -8,15 +9,10 @@ use Rattle.number.specs.Guid.{may, filled, guid_of}
 use Rattle.grammar.specs.Bytes.{Bytes, text, within}
 use Rattle.grammar.specs.Tree.{Pair, Tree, tree, Forest, no_trees, tree_then}
 use Rattle.table.specs.Table.{words, ◌is◌, if_there, table, settled}
-use Rattle.value.specs.declared.id.Guid.{Guid}
-use Rattle.value.specs.declared.text.Words.{Words}
-use Rattle.value.specs.declared.text.Words.TheVariants.{Absent, Present}
 use Rattle.message.specs.Fields.{Field, a_words, a_whole, a_measure, a_guid, a_features, fields_in, field_for}
 use Rattle.message.specs.Cells.{cells_of}
-use Rattle.message.specs.Messages.{with_zeros, message_from, blank as nothing}
+use Rattle.message.specs.Messages.{with_zeros, message_from, blank as nothing, bytes_in}
 use Rattle.message.specs.Checked.{unread, message_of, judged_to}
-use Rattle.message.specs.declared.values.Whole.TheVariants.{Present as IsWhole}
-use Rattle.message.specs.declared.values.Measure.TheVariants.{Present as IsMeasure}
 use Rattle.table.specs.Says.{judged, tried}
 
 infix 70 ◌:=◌
@@ -50,16 +46,16 @@ pub answers :
 answers = (refl, refl, refl)
 
 -- a raw value stands where its name says: at the name's first byte, as long as the rest of the name
-abbrev spot : Bytes → Words
-spot [] = Absent
-spot (b ∷ n) = Present (record { start = b; len = length n })
+abbrev spot : Bytes → Option Span
+spot [] = None
+spot (b ∷ n) = Some (record { start = b; len = length n })
 
-abbrev at : String → Words
+abbrev at : String → Option Span
 at n = spot (text n)
 
 -- the id of the examples
-abbrev some_id : Guid
-some_id = record { there = true; bytes = text "01234567-89ab-cdef-0123-456789abcdef" }
+abbrev some_id : Option Bytes
+some_id = Some (text "01234567-89ab-cdef-0123-456789abcdef")
 
 -- the attributes of a board from FailedBoard to WorkOrderId, with others behind them, and their fields
 abbrev board_with : List Pair → List Pair
@@ -81,18 +77,18 @@ board_with rest =
 
 abbrev fields_with : List Field → List Field
 fields_with rest =
-    a_whole (IsWhole 1)
+    a_whole (Some 1)
     ∷ a_words (at "ProductTypeId")
-    ∷ a_whole (IsWhole 2)
+    ∷ a_whole (Some 2)
     ∷ a_words (at "TopBarcode")
     ∷ a_words (at "BottomBarcode")
-    ∷ a_measure (IsMeasure 1000000 0)
-    ∷ a_measure (IsMeasure 2000000 0)
-    ∷ a_measure (IsMeasure 500000 1)
-    ∷ a_measure (IsMeasure 4000000 0)
-    ∷ a_measure (IsMeasure 5000000 0)
-    ∷ a_measure (IsMeasure 6000000 0)
-    ∷ a_measure (IsMeasure 7000000 0)
+    ∷ a_measure (Some (record { millionths = 1000000; decimals = 0 }))
+    ∷ a_measure (Some (record { millionths = 2000000; decimals = 0 }))
+    ∷ a_measure (Some (record { millionths = 500000; decimals = 1 }))
+    ∷ a_measure (Some (record { millionths = 4000000; decimals = 0 }))
+    ∷ a_measure (Some (record { millionths = 5000000; decimals = 0 }))
+    ∷ a_measure (Some (record { millionths = 6000000; decimals = 0 }))
+    ∷ a_measure (Some (record { millionths = 7000000; decimals = 0 }))
     ∷ a_words (at "WorkOrderId")
     ∷ rest
 
@@ -107,7 +103,7 @@ pub board_fields_lem :
     ≡ message_from 3
     (a_guid some_id
     ∷ a_words (at "BoardIdCreatedBy")
-    ∷ fields_with (a_whole (IsWhole 900) ∷ a_words (at "BatchId") ∷ []))
+    ∷ fields_with (a_whole (Some 900) ∷ a_words (at "BatchId") ∷ []))
 unfolding table message_from with_zeros cells_of fields_in field_for tried judged guid_of filled may hex int_of signed sized number_of decimals_of parted unsigned decimal written short above decimals before behind trim drop_front drop_back keep_before blank digit all non_empty value_from within
 board_fields_lem = refl
 
@@ -122,7 +118,7 @@ pub forecast_fields_lem :
     no_trees)
     ≡ message_from 11
     (a_words (at "ForecastId")
-    ∷ a_measure (IsMeasure 9000000 0)
+    ∷ a_measure (Some (record { millionths = 9000000; decimals = 0 }))
     ∷ a_guid some_id
     ∷ a_words (at "BoardIdCreatedBy")
     ∷ fields_with [])
@@ -131,25 +127,25 @@ forecast_fields_lem = refl
 
 pub service_fields_lem :
     message_of 1 spot (tree (text "ServiceDescription") ("MachineId" := "m" ∷ "LaneId" := "7" ∷ "Version" := "1.6" ∷ []) (tree_then (featuring (tree_then (bare "FeatureQueryBoardInfo") no_trees)) no_trees))
-    ≡ message_from 1 (a_words (at "MachineId") ∷ a_whole (IsWhole 7) ∷ a_words (at "Version") ∷ a_features (record { there = true; forecast = false; query = true; send = false }) ∷ [])
+    ≡ message_from 1 (a_words (at "MachineId") ∷ a_whole (Some 7) ∷ a_words (at "Version") ∷ a_features (Some (record { forecast = false; query = true; send = false })) ∷ [])
 unfolding table message_from with_zeros cells_of fields_in field_for tried judged int_of signed sized trim drop_front drop_back keep_before blank digit all non_empty value_from within
 service_fields_lem = refl
 
 pub other_fields :
-    (message_of 2 spot (tree (text "Notification") ("NotificationCode" := "8" ∷ "Severity" := "3" ∷ "Description" := "d" ∷ []) no_trees) ≡ message_from 2 (a_whole (IsWhole 8) ∷ a_whole (IsWhole 3) ∷ a_words (at "Description") ∷ []))
-    × (message_of 5 spot (tree (text "MachineReady") ("FailedBoard" := "2" ∷ "ForecastId" := "f" ∷ []) no_trees) ≡ message_from 5 (a_whole (IsWhole 2) ∷ a_words (at "ForecastId") ∷ []))
-    × (message_of 7 spot (tree (text "StartTransport") ("BoardId" := "01234567-89ab-cdef-0123-456789abcdef" ∷ "ConveyorSpeed" := "4" ∷ []) no_trees) ≡ message_from 7 (a_guid some_id ∷ a_measure (IsMeasure 4000000 0) ∷ []))
-    × (message_of 8 spot (tree (text "StopTransport") ("TransferState" := "3" ∷ "BoardId" := "01234567-89ab-cdef-0123-456789abcdef" ∷ []) no_trees) ≡ message_from 8 (a_whole (IsWhole 3) ∷ a_guid some_id ∷ []))
-    × (message_of 9 spot (tree (text "TransportFinished") ("TransferState" := "1" ∷ "BoardId" := "01234567-89ab-cdef-0123-456789abcdef" ∷ []) no_trees) ≡ message_from 9 (a_whole (IsWhole 1) ∷ a_guid some_id ∷ []))
-    × (message_of 10 spot (tree (text "CheckAlive") ("Type" := "2" ∷ "Id" := "i" ∷ []) no_trees) ≡ message_from 10 (a_whole (IsWhole 2) ∷ a_words (at "Id") ∷ []))
+    (message_of 2 spot (tree (text "Notification") ("NotificationCode" := "8" ∷ "Severity" := "3" ∷ "Description" := "d" ∷ []) no_trees) ≡ message_from 2 (a_whole (Some 8) ∷ a_whole (Some 3) ∷ a_words (at "Description") ∷ []))
+    × (message_of 5 spot (tree (text "MachineReady") ("FailedBoard" := "2" ∷ "ForecastId" := "f" ∷ []) no_trees) ≡ message_from 5 (a_whole (Some 2) ∷ a_words (at "ForecastId") ∷ []))
+    × (message_of 7 spot (tree (text "StartTransport") ("BoardId" := "01234567-89ab-cdef-0123-456789abcdef" ∷ "ConveyorSpeed" := "4" ∷ []) no_trees) ≡ message_from 7 (a_guid some_id ∷ a_measure (Some (record { millionths = 4000000; decimals = 0 })) ∷ []))
+    × (message_of 8 spot (tree (text "StopTransport") ("TransferState" := "3" ∷ "BoardId" := "01234567-89ab-cdef-0123-456789abcdef" ∷ []) no_trees) ≡ message_from 8 (a_whole (Some 3) ∷ a_guid some_id ∷ []))
+    × (message_of 9 spot (tree (text "TransportFinished") ("TransferState" := "1" ∷ "BoardId" := "01234567-89ab-cdef-0123-456789abcdef" ∷ []) no_trees) ≡ message_from 9 (a_whole (Some 1) ∷ a_guid some_id ∷ []))
+    × (message_of 10 spot (tree (text "CheckAlive") ("Type" := "2" ∷ "Id" := "i" ∷ []) no_trees) ≡ message_from 10 (a_whole (Some 2) ∷ a_words (at "Id") ∷ []))
 unfolding table message_from with_zeros cells_of fields_in field_for tried judged guid_of filled may hex int_of signed sized number_of decimals_of parted unsigned decimal written short above decimals before behind trim drop_front drop_back keep_before blank digit all non_empty value_from within
 other_fields = (refl, refl, refl, refl, refl, refl)
 
 -- the numbers of a message: of an id whether it is there, of a text its place, of a number its value, of features their bits; zeros behind them
 pub message_numbers :
-    (message_from 7 (a_guid some_id ∷ a_measure (IsMeasure 4000000 2) ∷ []) ≡ record { kind = 7; cells = 1 ∷ 0 ∷ 0 ∷ 1 ∷ 4000000 ∷ 2 ∷ replicate 66 0; id = some_id.bytes })
-    × (message_from 10 (a_whole (IsWhole 2) ∷ a_words (Present (record { start = 31; len = 4 })) ∷ []) ≡ record { kind = 10; cells = 1 ∷ 2 ∷ 0 ∷ 1 ∷ 31 ∷ 4 ∷ replicate 66 0; id = replicate 36 0 })
-    × (message_from 1 (a_words Absent ∷ a_whole (IsWhole 1) ∷ a_words Absent ∷ a_features (record { there = true; forecast = true; query = false; send = true }) ∷ []) ≡ record { kind = 1; cells = 0 ∷ 0 ∷ 0 ∷ 1 ∷ 1 ∷ 0 ∷ 0 ∷ 0 ∷ 0 ∷ 1 ∷ 5 ∷ 0 ∷ replicate 60 0; id = replicate 36 0 })
+    (message_from 7 (a_guid some_id ∷ a_measure (Some (record { millionths = 4000000; decimals = 2 })) ∷ []) ≡ record { kind = 7; cells = 1 ∷ 0 ∷ 0 ∷ 1 ∷ 4000000 ∷ 2 ∷ replicate 66 0; id = bytes_in some_id })
+    × (message_from 10 (a_whole (Some 2) ∷ a_words (Some (record { start = 31; len = 4 })) ∷ []) ≡ record { kind = 10; cells = 1 ∷ 2 ∷ 0 ∷ 1 ∷ 31 ∷ 4 ∷ replicate 66 0; id = replicate 36 0 })
+    × (message_from 1 (a_words None ∷ a_whole (Some 1) ∷ a_words None ∷ a_features (Some (record { forecast = true; query = false; send = true })) ∷ []) ≡ record { kind = 1; cells = 0 ∷ 0 ∷ 0 ∷ 1 ∷ 1 ∷ 0 ∷ 0 ∷ 0 ∷ 0 ∷ 1 ∷ 5 ∷ 0 ∷ replicate 60 0; id = replicate 36 0 })
     × (message_from 5 [] ≡ nothing 5)
 unfolding message_from with_zeros cells_of
 message_numbers = (refl, refl, refl, refl)
@@ -157,6 +153,6 @@ message_numbers = (refl, refl, refl, refl)
 -- a text that is required with another attribute: its place, or none where it is not looked at
 pub with_another :
     (fields_in (settled (λ n. true) (if_there "BoardId" ("MadeBy" is words 80) ∷ [])) spot (bare "X") ≡ a_words (at "MadeBy") ∷ [])
-    × (fields_in (settled (λ n. false) (if_there "BoardId" ("MadeBy" is words 80) ∷ [])) spot (bare "X") ≡ a_words Absent ∷ [])
+    × (fields_in (settled (λ n. false) (if_there "BoardId" ("MadeBy" is words 80) ∷ [])) spot (bare "X") ≡ a_words None ∷ [])
 unfolding fields_in field_for
 with_another = (refl, refl)

@@ -1,12 +1,10 @@
 -- What is handed out is taken from the one reading.
-use Rattle.std.specs.Prelude.{◌≡◌, List, ◌∷◌, true, false, ◌+◌, ◌-◌, ◌≤◌, length, take, drop}
+use Rattle.std.specs.Prelude.{◌≡◌, List, ◌∷◌, true, false, ◌+◌, ◌-◌, ◌≤◌, length, take, drop, Option, Some, None}
 use Rattle.grammar.specs.Bytes.{Bytes, same}
 use Rattle.grammar.specs.Tree.{Pair, Tree, tree}
 use Rattle.grammar.specs.Message.{Message as IsMessage}
 use Rattle.value.specs.Text.{Text}
 use Rattle.value.specs.declared.text.Span.{Span}
-use Rattle.value.specs.declared.text.Words.{Words}
-use Rattle.value.specs.declared.text.Words.TheVariants.{Absent, Present}
 use Rattle.table.specs.Table.{Entry, table}
 use Rattle.table.specs.Says.{child_of, said_in}
 use Rattle.message.specs.Checked.{message_in}
@@ -33,10 +31,10 @@ pub record HandedBy (by : List Entry) (s : Bytes) (r : Checked) : Type 0 where
   pub reading : Tree
   pub message : IsMessage (take (r.end - r.start) (drop r.start s)) reading
   pub one : (t : Tree) → IsMessage (take (r.end - r.start) (drop r.start s)) t → t ≡ reading
-  pub place : Bytes → Words
+  pub place : Bytes → Option Span
   pub fields : r.message ≡ message_in by (said_in by reading).kind place (child_of reading)
-  pub there : (n : Bytes) (p : Span) → place n ≡ Present p → ReadsAt s n (attributes_of (child_of reading)) p
-  pub absent : (n : Bytes) → place n ≡ Absent → (v : Bytes) → Has n v (attributes_of (child_of reading)) → ⊥
+  pub there : (n : Bytes) (p : Span) → place n ≡ Some p → ReadsAt s n (attributes_of (child_of reading)) p
+  pub absent : (n : Bytes) → place n ≡ None → (v : Bytes) → Has n v (attributes_of (child_of reading)) → ⊥
 
 abbrev pub HandedOut : Bytes → Checked → Type 0
 HandedOut s r = HandedBy table s r

@@ -1,9 +1,8 @@
 -- A message: its kind, its cells and its BoardId; and what its fields are.
-use Rattle.std.specs.Prelude.{List, [], ◌∷◌, ◌++◌, cond, ℕ, length, drop, replicate, leb}
+use Rattle.std.specs.Prelude.{List, [], ◌∷◌, ◌++◌, cond, ℕ, length, drop, replicate, leb, Option, unwrap_or}
 use Prim.Native.String.{String}
 use Rattle.grammar.specs.Bytes.{Bytes, text, same}
-use Rattle.value.specs.Ids.{no_id}
-use Rattle.value.specs.declared.id.Guid.{Guid}
+use Rattle.value.specs.Ids.{no_bytes}
 use Rattle.table.specs.Table.{Row, rows_of, guid_cell_in}
 use Rattle.message.specs.Fields.{Field, none, a_words, a_whole, a_measure, a_guid, a_features}
 use Rattle.message.specs.Cells.{NUMBERS, is_there, cell_at, fields_from, cells_of}
@@ -14,12 +13,12 @@ unfoldable pub with_zeros : List ℕ → List ℕ
 with_zeros c = c ++ drop (length c) (replicate NUMBERS 0)
 
 -- the bytes of an id; zeros if it is absent
-abbrev pub bytes_in : Guid → Bytes
-bytes_in g = cond g.there g.bytes no_id.bytes
+abbrev pub bytes_in : Option Bytes → Bytes
+bytes_in g = unwrap_or g no_bytes
 
 -- the bytes of the first id among fields; zeros if there is none
 abbrev pub id_among : List Field → Bytes
-id_among [] = no_id.bytes
+id_among [] = no_bytes
 id_among (none ∷ l) = id_among l
 id_among (a_words w ∷ l) = id_among l
 id_among (a_whole w ∷ l) = id_among l
@@ -33,7 +32,7 @@ message_from k l = record { kind = k; cells = with_zeros (cells_of l); id = id_a
 
 -- in which nothing is there
 abbrev pub blank : ℕ → Message
-blank k = record { kind = k; cells = replicate NUMBERS 0; id = no_id.bytes }
+blank k = record { kind = k; cells = replicate NUMBERS 0; id = no_bytes }
 
 -- the message of a kind that has these cells and this BoardId
 abbrev pub message_by : ℕ → List ℕ → Bytes → Message
@@ -62,7 +61,7 @@ id_cell k = guid_cell_in NUMBERS (rows_of k) 0
 
 -- the id, if there is a cell for it, and the id is there
 abbrev pub id_by : ℕ → List ℕ → Bytes → Bytes
-id_by at cells id = cond (leb NUMBERS at) no_id.bytes (cond (is_there (cell_at cells at)) id no_id.bytes)
+id_by at cells id = cond (leb NUMBERS at) no_bytes (cond (is_there (cell_at cells at)) id no_bytes)
 
 -- a number that is too large for its place counts as the largest one there
 abbrev pub at_most : ℕ → ℕ → ℕ

@@ -1,4 +1,5 @@
 -- Which refusals the attribute table gives: 0, 4, 5 or 6, in reading and in sending.
+use Rattle.std.specs.Prelude.{Option, Some, None}
 use Rattle.spelling.specs.Written.{matter}
 use mathlib.Core.Path.{◌≡◌, refl}
 use mathlib.Core.List.{List, [], ◌∷◌}
@@ -14,12 +15,9 @@ use Rattle.number.specs.Guid.{guid_of}
 use Rattle.number.specs.Version.{version_of}
 use Rattle.lane.specs.Chart.{among}
 use Rattle.value.specs.declared.text.Span.{Span}
-use Rattle.value.specs.declared.text.Words.TheVariants.{Absent as NoWords, Present as IsWords}
 use Rattle.table.specs.Table.{Row, Form, words, some_words, whole, guid, version, positive, features, Need, required, optional, required_with, ignored}
 use Rattle.table.specs.Says.{Value, Result, present, refused, a_text, an_int, an_id, millionths, noted, notes, when, without, ranged, measured, judged, given, name_of, children_of, featured, sought, by_need, tried, refusal_in, first, refusal_of}
 use Rattle.message.specs.Fields.{Field, none, a_words, a_whole, a_measure, a_guid, a_features}
-use Rattle.message.specs.declared.values.Whole.TheVariants.{Absent as NoWhole, Present as IsWhole}
-use Rattle.message.specs.declared.values.Measure.TheVariants.{Absent as NoMeasure, Present as IsMeasure}
 use Rattle.message.specs.declared.values.Features.{Features}
 use Rattle.meant.specs.Meant.{sendable, text_at, text_meant, whole_meant, measure_meant, id_meant, features_meant, meant_as, meant_by, meant_of, first_in, MOST}
 
@@ -153,14 +151,16 @@ features_fine features f = present_fine (noted f.forecast f.query f.send)
 
 as_fine : (t : Form) (x : Field) (texts : Bytes) (o : Bool) → Fine (meant_as t x texts o)
 as_fine t none texts o = bad_fine
-as_fine t (a_words NoWords) texts o = without_fine o
-as_fine t (a_words (IsWords p)) texts o = text_fine t texts p
-as_fine t (a_whole NoWhole) texts o = without_fine o
-as_fine t (a_whole (IsWhole k)) texts o = whole_fine t k
-as_fine t (a_measure NoMeasure) texts o = without_fine o
-as_fine t (a_measure (IsMeasure x d)) texts o = measure_fine t x d
-as_fine t (a_guid g) texts o = either_fine g.there (id_fine t g.bytes) (without_fine o)
-as_fine t (a_features f) texts o = either_fine f.there (features_fine t f) (without_fine o)
+as_fine t (a_words None) texts o = without_fine o
+as_fine t (a_words (Some p)) texts o = text_fine t texts p
+as_fine t (a_whole None) texts o = without_fine o
+as_fine t (a_whole (Some k)) texts o = whole_fine t k
+as_fine t (a_measure None) texts o = without_fine o
+as_fine t (a_measure (Some d)) texts o = measure_fine t d.millionths d.decimals
+as_fine t (a_guid None) texts o = without_fine o
+as_fine t (a_guid (Some v)) texts o = id_fine t v
+as_fine t (a_features None) texts o = without_fine o
+as_fine t (a_features (Some f)) texts o = features_fine t f
 
 meant_fine : (r : Row) (x : Field) (texts : Bytes) → Fine (meant_by r x texts)
 unfolding meant_by

@@ -1,4 +1,5 @@
 -- The BoardId and a text of a message that was read are those of the message that was sent.
+use Rattle.std.specs.Prelude.{Option, Some, None}
 use mathlib.Core.Path.{◌≡◌, refl, sym, ap, subst, ◌∙◌}
 use mathlib.Core.List.{List, [], ◌∷◌}
 use mathlib.Core.Bool.{Bool, true, false, ◌&&◌, ◌||◌, not, cond}
@@ -14,12 +15,8 @@ use Rattle.grammar.specs.Bytes.{Bytes, text, same}
 use Rattle.grammar.specs.Tree.{Pair, Tree, tree}
 use Rattle.model.specs.Tests.{same_true}
 use Rattle.spelling.specs.Decided.{is_text}
-use Rattle.value.specs.Ids.{no_id}
 use Rattle.value.proofs.Quotes.{text_one}
-use Rattle.value.specs.declared.id.Guid.{Guid}
 use Rattle.value.specs.declared.text.Span.{Span}
-use Rattle.value.specs.declared.text.Words.{Words}
-use Rattle.value.specs.declared.text.Words.TheVariants.{Absent as NoWords, Present as IsWords}
 use Rattle.table.specs.Table.{Row, Form, words, some_words, whole, guid, version, positive, features, Need, rows_of}
 use Rattle.table.specs.Theorems.{plain_need, plain_rows, plain_table, plain_flag, by_flag}
 use Rattle.table.specs.Says.{Result, absent, present, refused, a_text, an_id, TOO_LONG, when, judged, given, sought, refusal_in, first, without, by_need, tried, values_of}
@@ -37,32 +34,21 @@ use Rattle.meant.specs.Meant.{text_at, id_meant, meant_as, meant_by, meant_of, f
 use Rattle.meant.proofs.MessageLaws.{refusal_table}
 
 -- an id that was meant
-id_back : (g : Guid) (opt : Bool) (x : Result) → x ≡ cond g.there (id_meant guid g.bytes) (without opt) → refusal_in x ≡ 0 → bytes_in (id_in x) ≡ bytes_in g
-id_back g opt x e z = cases g.there (λ t. cases (guid_of g.bytes) (λ h. good t h) (λ h. bad t h)) none_there
-  where
-    good : g.there ≡ true → guid_of g.bytes ≡ true → bytes_in (id_in x) ≡ bytes_in g
-    good t h = let y : x ≡ present (an_id g.bytes) = e ∙ rw (t, h) refl in ap (λ (x : Result). bytes_in (id_in x)) y ∙ sym (ap (λ (b : Bool). cond b g.bytes no_id.bytes) t)
-
-    bad : g.there ≡ true → guid_of g.bytes ≡ false → bytes_in (id_in x) ≡ bytes_in g
-    bad t h = absurd (let y : x ≡ refused 6 = e ∙ rw (t, h) refl in let w : 6 ≡ 0 = sym (ap refusal_in y) ∙ z in omega arith)
-
-    lacks : (opt : Bool) → bytes_in (id_in (without opt)) ≡ no_id.bytes
-    lacks true = refl
-    lacks false = refl
-
-    none_there : g.there ≡ false → bytes_in (id_in x) ≡ bytes_in g
-    none_there t = let y : x ≡ without opt = e ∙ rw t refl in ap (λ (x : Result). bytes_in (id_in x)) y ∙ lacks opt ∙ sym (ap (λ (b : Bool). cond b g.bytes no_id.bytes) t)
+id_back : (g : Option Bytes) (opt : Bool) (texts : Bytes) (x : Result) → x ≡ meant_as guid (a_guid g) texts opt → refusal_in x ≡ 0 → bytes_in (id_in x) ≡ bytes_in g
+id_back None true texts x e z = ap (λ (x : Result). bytes_in (id_in x)) e
+id_back None false texts x e z = ap (λ (x : Result). bytes_in (id_in x)) e
+id_back (Some v) opt texts x e z = cases (guid_of v) (λ h. let y : x ≡ present (an_id v) = e ∙ rw h refl in ap (λ (x : Result). bytes_in (id_in x)) y) (λ h. absurd (let y : x ≡ refused 6 = e ∙ rw h refl in let w : 6 ≡ 0 = sym (ap refusal_in y) ∙ z in omega arith))
 
 first_zero : (a b : ℕ) → first a b ≡ 0 → (a ≡ 0) × (b ≡ 0)
 first_zero zero b e = (refl, e)
 first_zero (suc a) b e = absurd (omega arith)
 
-module _ (texts : Bytes) (place : Bytes → Words) (t : Tree) where
+module _ (texts : Bytes) (place : Bytes → Option Span) (t : Tree) where
   -- one row, and the field that it was sent with
-  row_back : (F : Form) (d : Need) (x : Field) (v : Result) (w : Words) (l k : List Field) → plain_need d ≡ true → sort_of F ≡ sort_in x → v ≡ by_need d (meant_as F x texts) → refusal_in v ≡ 0 → id_among l ≡ id_among k
+  row_back : (F : Form) (d : Need) (x : Field) (v : Result) (w : Option Span) (l k : List Field) → plain_need d ≡ true → sort_of F ≡ sort_in x → v ≡ by_need d (meant_as F x texts) → refusal_in v ≡ 0 → id_among l ≡ id_among k
       → id_among (field_for F w v ∷ l) ≡ id_among (x ∷ k)
   unfolding field_for
-  row_back guid d (a_guid g) v w l k p s e z h = let (o, u) = plain_flag d p in id_back g o v (e ∙ ap (λ (d : Need). by_need d (meant_as guid (a_guid g) texts)) u ∙ by_flag o (meant_as guid (a_guid g) texts)) z
+  row_back guid d (a_guid g) v w l k p s e z h = let (o, u) = plain_flag d p in id_back g o texts v (e ∙ ap (λ (d : Need). by_need d (meant_as guid (a_guid g) texts)) u ∙ by_flag o (meant_as guid (a_guid g) texts)) z
   row_back guid d none v w l k p s e z h = absurd (omega arith)
   row_back guid d (a_words y) v w l k p s e z h = absurd (omega arith)
   row_back guid d (a_whole y) v w l k p s e z h = absurd (omega arith)
@@ -91,8 +77,8 @@ module _ (texts : Bytes) (place : Bytes → Words) (t : Tree) where
       row_back r.form r.need x (tried r t) (placed_by r.need (place r.name)) (fields_in rows place t) l a (ap (λ (l : List ℕ). get_or l 0 0) s) v (ap refusal_in v ∙ y) (same_among rows l b (ap (drop 1) s) (ap (drop 1) e) w)
 
   -- a text 80 of a name, as it is read (w) and as it was sent (u)
-  pub data Both (n : Bytes) (w u : Words) : Type 0 where
-    no_row : w ≡ NoWords → u ≡ NoWords → Both n w u
+  pub data Both (n : Bytes) (w u : Option Span) : Type 0 where
+    no_row : w ≡ None → u ≡ None → Both n w u
     a_row : (opt : Bool) → w ≡ place n → given (words 80) opt n (attributes_of t) ≡ meant_as (words 80) (a_words u) texts opt → refusal_in (given (words 80) opt n (attributes_of t)) ≡ 0 → Both n w u
 
   sought_words : (n : Bytes) (s : Tree) (opt : Bool) → sought (words 80) n s opt ≡ given (words 80) opt n (attributes_of s)
@@ -142,7 +128,7 @@ module _ (texts : Bytes) (place : Bytes → Words) (t : Tree) where
       go false f a i v z o = o
 
 -- of a whole message: what it carries
-module _ (m : Message) (texts : Bytes) (place : Bytes → Words) (t : Tree) (z : refusal_of m texts ≡ 0) (v : values_of (rows_of m.kind) t ≡ meant_of (rows_of m.kind) (fields_of m) texts) where
+module _ (m : Message) (texts : Bytes) (place : Bytes → Option Span) (t : Tree) (z : refusal_of m texts ≡ 0) (v : values_of (rows_of m.kind) t ≡ meant_of (rows_of m.kind) (fields_of m) texts) where
   none_refused : first_in (meant_of (rows_of m.kind) (fields_of m) texts) ≡ 0
   none_refused = sym (refusal_table m.kind (fields_of m) texts) ∙ z
 
@@ -153,10 +139,10 @@ module _ (m : Message) (texts : Bytes) (place : Bytes → Words) (t : Tree) (z :
       (both_words texts place t (text n) (rows_of m.kind) (fields_of m) (plain_table m.kind) (short m.kind) (sorts_kind m) v none_refused)
 
 -- the bytes that it means
-meant_one : (texts v : Bytes) (u : Words) (opt : Bool) → present (a_text v) ≡ meant_as (words 80) (a_words u) texts opt → a_forecast v ≡ carried_in texts u
-meant_one texts v NoWords true e = absurd (let y : ◌≡◌ {A = ℕ} 0 1 = cc in omega arith)
-meant_one texts v NoWords false e = absurd (let y : ◌≡◌ {A = ℕ} 0 1 = cc in omega arith)
-meant_one texts v (IsWords p) opt e = go (leb p.len 80) (leb (p.start + p.len) (length texts)) (is_text (text_at texts p)) e
+meant_one : (texts v : Bytes) (u : Option Span) (opt : Bool) → present (a_text v) ≡ meant_as (words 80) (a_words u) texts opt → a_forecast v ≡ carried_in texts u
+meant_one texts v None true e = absurd (let y : ◌≡◌ {A = ℕ} 0 1 = cc in omega arith)
+meant_one texts v None false e = absurd (let y : ◌≡◌ {A = ℕ} 0 1 = cc in omega arith)
+meant_one texts v (Some p) opt e = go (leb p.len 80) (leb (p.start + p.len) (length texts)) (is_text (text_at texts p)) e
   where
     go : (a b c : Bool) → present (a_text v) ≡ cond a (when (b && c) (a_text (text_at texts p))) (refused TOO_LONG) → a_forecast v ≡ cond (a && b) (a_forecast (text_at texts p)) no_forecast_case
     go true true true e = let y : v ≡ text_at texts p = cc in ap a_forecast y
@@ -164,10 +150,10 @@ meant_one texts v (IsWords p) opt e = go (leb p.len 80) (leb (p.start + p.len) (
     go true false c e = absurd (let y : ◌≡◌ {A = ℕ} 0 1 = cc in omega arith)
     go false b c e = absurd (let y : ◌≡◌ {A = ℕ} 0 1 = cc in omega arith)
 
-meant_none : (texts : Bytes) (u : Words) (opt : Bool) → without opt ≡ meant_as (words 80) (a_words u) texts opt → refusal_in (without opt) ≡ 0 → no_forecast_case ≡ carried_in texts u
-meant_none texts NoWords opt e z = refl
-meant_none texts (IsWords p) false e z = absurd (omega arith)
-meant_none texts (IsWords p) true e z = go (leb p.len 80) (leb (p.start + p.len) (length texts)) (is_text (text_at texts p)) e
+meant_none : (texts : Bytes) (u : Option Span) (opt : Bool) → without opt ≡ meant_as (words 80) (a_words u) texts opt → refusal_in (without opt) ≡ 0 → no_forecast_case ≡ carried_in texts u
+meant_none texts None opt e z = refl
+meant_none texts (Some p) false e z = absurd (omega arith)
+meant_none texts (Some p) true e z = go (leb p.len 80) (leb (p.start + p.len) (length texts)) (is_text (text_at texts p)) e
   where
     go : (a b c : Bool) → absent ≡ cond a (when (b && c) (a_text (text_at texts p))) (refused TOO_LONG) → no_forecast_case ≡ cond (a && b) (a_forecast (text_at texts p)) no_forecast_case
     go true true true e = absurd (let y : ◌≡◌ {A = ℕ} 0 1 = cc in omega arith)
@@ -190,9 +176,9 @@ unfolding judged
 judged_short v z = ap (λ (b : Bool). cond b (present (a_text v)) (refused TOO_LONG)) (le-leb (length v) 80 (kept_limit v z))
 
 -- what the text of a name carries is what was sent
-pub forecast_back : {s texts n : Bytes} {place : Bytes → Words} {t : Tree} {w u : Words} {f : Carried} → Both texts place t n w u → ((p : Span) → place n ≡ IsWords p → ReadsAt s n (attributes_of t) p) → (place n ≡ NoWords → (v : Bytes) → Has n v (attributes_of t) → ⊥) → Carries s w f → f ≡ carried_in texts u
+pub forecast_back : {s texts n : Bytes} {place : Bytes → Option Span} {t : Tree} {w u : Option Span} {f : Carried} → Both texts place t n w u → ((p : Span) → place n ≡ Some p → ReadsAt s n (attributes_of t) p) → (place n ≡ None → (v : Bytes) → Has n v (attributes_of t) → ⊥) → Carries s w f → f ≡ carried_in texts u
 forecast_back (no_row e g) there gone (carries_none k q) = q ∙ sym (ap (carried_in _) g)
-forecast_back (no_row e g) there gone (carries_one p k v x q) = absurd (let y : NoWords ≡ IsWords p = sym e ∙ k in let z : ◌≡◌ {A = ℕ} 0 1 = cc in omega arith)
+forecast_back (no_row e g) there gone (carries_one p k v x q) = absurd (let y : None ≡ Some p = sym e ∙ k in let z : ◌≡◌ {A = ℕ} 0 1 = cc in omega arith)
 forecast_back {texts = texts} {n} {t = t} {u = u} (a_row o e g z) there gone (carries_none k q) =
     let m = given_none (words 80) o n (attributes_of t) (gone (sym e ∙ k)) in
     q ∙ meant_none texts u o (sym m ∙ g) (ap refusal_in (sym m) ∙ z)
@@ -203,7 +189,7 @@ forecast_back {texts = texts} {n} {t = t} {u = u} (a_row o e g z) there gone (ca
     q ∙ ap a_forecast (text_one x r.text) ∙ meant_one texts r.value u o (sym j ∙ sym m ∙ g)
 
 -- of a whole message: its BoardId
-pub same_id_case : (m : Message) (texts : Bytes) (place : Bytes → Words) (t : Tree) → refusal_of m texts ≡ 0 → (k : ℕ) → k ≡ m.kind → values_of (rows_of m.kind) t ≡ meant_of (rows_of m.kind) (fields_of m) texts → id_of (message_of k place t) ≡ id_of m
+pub same_id_case : (m : Message) (texts : Bytes) (place : Bytes → Option Span) (t : Tree) → refusal_of m texts ≡ 0 → (k : ℕ) → k ≡ m.kind → values_of (rows_of m.kind) t ≡ meant_of (rows_of m.kind) (fields_of m) texts → id_of (message_of k place t) ≡ id_of m
 unfolding id_of
 same_id_case m texts place t z k e v =
     ap (λ (k : ℕ). id_of (message_of k place t)) e ∙ handed_id m.kind place t

@@ -1,4 +1,6 @@
 -- T2.W6: what one end sends, the other end's `check` reads as that message. T2.L10 for the reply that receiving writes.
+use Rattle.std.specs.Prelude.{Option}
+use Rattle.value.specs.declared.text.Span.{Span}
 use mathlib.Core.Path.{◌≡◌, refl, sym, ap, subst, ◌∙◌}
 use mathlib.Core.List.{List, [], ◌++◌}
 use mathlib.Core.Bool.{true}
@@ -16,7 +18,6 @@ use Rattle.grammar.specs.Answer.{Answers, ends_at, more_from, malformed_at, too_
 use Rattle.model.proofs.Cuts.{piece_behind}
 use Rattle.model.proofs.Theorems.{one_reading, answers_only}
 use Rattle.lane.specs.declared.Lane.{Lane}
-use Rattle.value.specs.declared.text.Words.{Words}
 use Rattle.table.specs.Table.{Row, is_kind, rows_of}
 use Rattle.table.specs.Theorems.{rows_table}
 use Rattle.table.specs.Says.{child_of, said_of, values_of}
@@ -45,7 +46,7 @@ pub record Finds (w : Bytes) (t : Tree) (c : Checked) : Type 0 where
   pub kind : c.message.kind ≡ (said_of t).kind
   pub refusal : c.refusal ≡ (said_of t).refusal
   -- where its raw values stand, and what is handed out
-  pub place : Bytes → Words
+  pub place : Bytes → Option Span
   pub message : c.message ≡ message_of (said_of t).kind place (child_of t)
 
 ended_at : {w : Bytes} {t : Tree} (rest : Bytes) → IsMessage w t → length w ≤ MESSAGE → Answers (w ++ rest) (ends_at 0 (length w))

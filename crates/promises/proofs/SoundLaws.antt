@@ -1,4 +1,5 @@
 -- A text 80 that `check` hands out reads as at most 80 bytes.
+use Rattle.std.specs.Prelude.{Option, Some, None}
 use mathlib.Core.Path.{◌≡◌, refl, sym, ap, subst, ◌∙◌}
 use mathlib.Core.List.{List}
 use mathlib.Core.Bool.{Bool, true, false, cond}
@@ -12,8 +13,6 @@ use Rattle.grammar.specs.Bytes.{Bytes, text}
 use Rattle.grammar.specs.Tree.{Tree}
 use Rattle.grammar.specs.Message.{Message as IsMessage, read_layout}
 use Rattle.value.specs.declared.text.Span.{Span}
-use Rattle.value.specs.declared.text.Words.{Words}
-use Rattle.value.specs.declared.text.Words.TheVariants.{Absent as NoWords, Present as IsWords}
 use Rattle.table.specs.Table.{Row, table, rows_of}
 use Rattle.table.specs.Theorems.{rows_table, each_rows}
 use Rattle.table.specs.Says.{refusal_of, child_of, said_of}
@@ -29,10 +28,10 @@ use Rattle.message.proofs.Theorems.{handed_out}
 use Rattle.meant.specs.Events.{forecast_id, Sound}
 use Rattle.promises.specs.Receiving.{reply_id}
 
-not_there : {X : Type 0} {p : Span} → NoWords ≡ IsWords p → X
+not_there : {X : Type 0} {p : Span} → None ≡ Some p → X
 not_there e = absurd (let z : ◌≡◌ {A = ℕ} 0 1 = cc in omega arith)
 
-no_place : (s : Bytes) {w : Words} → w ≡ NoWords → Sound s w
+no_place : (s : Bytes) {w : Option Span} → w ≡ None → Sound s w
 no_place s e p f = absurd (let z : ◌≡◌ {A = ℕ} 0 1 = cc in omega arith)
 
 -- every row of the name is a text 80
@@ -41,12 +40,12 @@ pub record Short (n : String) : Type 0 where
 
 module _ (n : String) where
   -- the field of a message that is handed out
-  pub called_handed : (k : ℕ) (place : Bytes → Words) (t : Tree) → called n (message_of k place t) ≡ called_in (text n) (rows_of k) (fields_in (rows_of k) place t)
+  pub called_handed : (k : ℕ) (place : Bytes → Option Span) (t : Tree) → called n (message_of k place t) ≡ called_in (text n) (rows_of k) (fields_in (rows_of k) place t)
   unfolding message_from
   called_handed k place t = ap (called_in (text n) (rows_of k)) (handed_back k place t)
 
   -- where its raw value stands
-  pub place_called : {s : Bytes} {c : Checked} (h : HandedOut s c) (p : Span) → the_words (called n c.message) ≡ IsWords p → h.place (text n) ≡ IsWords p
+  pub place_called : {s : Bytes} {c : Checked} (h : HandedOut s c) (p : Span) → the_words (called n c.message) ≡ Some p → h.place (text n) ≡ Some p
   place_called {c = c} h p e =
       called_place (text n) h.place (child_of h.reading) (rows_of (said_of h.reading).kind) p
       (ap the_words (sym (called_handed (said_of h.reading).kind h.place (child_of h.reading))) ∙ ap (λ (m : Message). the_words (called n m)) (sym h.fields) ∙ e)
@@ -57,7 +56,7 @@ module _ (n : String) where
       let t = child_of h.reading in
       let x = h.there (text n) p (place_called h p e) in
       let q : refusal_of (rows_of k) t ≡ 0 = sym (ap (λ (l : List Row). refusal_of l t) (rows_table k t)) ∙ z in
-      let f : the_words (called_in (text n) (rows_of k) (fields_in (rows_of k) h.place t)) ≡ IsWords p = ap the_words (sym (called_handed k h.place t)) ∙ ap (λ (m : Message). the_words (called n m)) (sym h.fields) ∙ e in
+      let f : the_words (called_in (text n) (rows_of k) (fields_in (rows_of k) h.place t)) ≡ Some p = ap the_words (sym (called_handed k h.place t)) ∙ ap (λ (m : Message). the_words (called n m)) (sym h.fields) ∙ e in
       (x.value, x.text, x.inside, short_kept (text n) x.value h.place t x.has k p (short.each k) q f)
 
   pub check_sound : Short n → {s : Bytes} {r : Checked} → Checks s r → Sound s (the_words (called n r.message))
@@ -80,14 +79,14 @@ module _ (n : String) where
   check_sound short {s} (too_long start p e) = no_place s (ap (λ (c : Checked). the_words (called n c.message)) e ∙ none_called (text n) 0)
 
   -- a message that has the text is not refused
-  pub called_accepted : {s : Bytes} {r : Checked} → Checks s r → (p : Span) → the_words (called n r.message) ≡ IsWords p → r.refusal ≡ 0
+  pub called_accepted : {s : Bytes} {r : Checked} → Checks s r → (p : Span) → the_words (called n r.message) ≡ Some p → r.refusal ≡ 0
   called_accepted {s} {r} (ends start end p l w e) q f = go (eqb (said_of (read_layout l)).refusal 0) refl
     where
       go : (b : Bool) → eqb (said_of (read_layout l)).refusal 0 ≡ b → r.refusal ≡ 0
       go true g = ap (λ (c : Checked). c.refusal) e ∙ eqb-true (said_of (read_layout l)).refusal 0 g
       go false g = not_there (sym (refused_none e g) ∙ f)
         where
-          refused_none : {x : Checked} → x ≡ checked_as start end l → eqb (said_of (read_layout l)).refusal 0 ≡ false → the_words (called n x.message) ≡ NoWords
+          refused_none : {x : Checked} → x ≡ checked_as start end l → eqb (said_of (read_layout l)).refusal 0 ≡ false → the_words (called n x.message) ≡ None
           refused_none e g = ap (λ (c : Checked). the_words (called n c.message)) e ∙ ap (λ (b : Bool). the_words (called n (cond b (message_of (said_of (read_layout l)).kind (places_in start l) (child_of (read_layout l))) (blank (said_of (read_layout l)).kind)))) g ∙ none_called (text n) (said_of (read_layout l)).kind
   called_accepted (more start p e) q f = not_there (sym (ap (λ (c : Checked). the_words (called n c.message)) e ∙ none_called (text n) 0) ∙ f)
   called_accepted (malformed start place p e) q f = not_there (sym (ap (λ (c : Checked). the_words (called n c.message)) e ∙ none_called (text n) 0) ∙ f)

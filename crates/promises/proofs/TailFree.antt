@@ -1,4 +1,5 @@
 -- T3.13: with a message that ends, nothing behind its end matters: to checking, and to receiving.
+use Rattle.std.specs.Prelude.{Option, Some, None}
 use mathlib.Core.Path.{◌≡◌, sym, ap, subst, ◌∙◌}
 use mathlib.Core.List.{List, ◌++◌}
 use mathlib.Core.Logic.{⊎_elim}
@@ -18,8 +19,6 @@ use Rattle.lane.specs.declared.Lane.{Lane}
 use Rattle.value.specs.Text.{Text}
 use Rattle.value.proofs.Quotes.{text_one}
 use Rattle.value.specs.declared.text.Span.{Span}
-use Rattle.value.specs.declared.text.Words.{Words}
-use Rattle.value.specs.declared.text.Words.TheVariants.{Absent as NoWords, Present as IsWords}
 use Rattle.table.specs.Says.{child_of}
 use Rattle.message.specs.Checked.{Checks, ends, more, malformed, too_long, checked_as}
 use Rattle.message.specs.Handed.{Has, has_here, has_later, attributes_of}
@@ -75,19 +74,19 @@ module _ (a b : Bytes) {c : Checked} (x : Checks a c) (y : Checks b c) (z : c.re
   one : (handed_out x z).reading ≡ (handed_out y z).reading
   one = one_reading (subst (λ (w : Bytes). IsMessage w (handed_out x z).reading) same_bytes (handed_out x z).message) (handed_out y z).message
 
-  text_alike : (n : String) (p : Span) → the_words (called n c.message) ≡ IsWords p → (v v' : Bytes) → Text (take p.len (drop p.start a)) v → Text (take p.len (drop p.start b)) v' → v ≡ v'
+  text_alike : (n : String) (p : Span) → the_words (called n c.message) ≡ Some p → (v v' : Bytes) → Text (take p.len (drop p.start a)) v → Text (take p.len (drop p.start b)) v' → v ≡ v'
   text_alike n p e v v' t t' =
       let f = (handed_out x z).there (text n) p (place_called n (handed_out x z) p e) in
       let g = (handed_out y z).there (text n) p (place_called n (handed_out y z) p e) in
       text_one t f.text ∙ has_one f.has (subst (λ (t : Tree). Has (text n) g.value (attributes_of (child_of t))) (sym one) g.has) ∙ text_one g.text t'
 
-one_span : {w : Words} {p p' : Span} → w ≡ IsWords p → w ≡ IsWords p' → p ≡ p'
+one_span : {w : Option Span} {p p' : Span} → w ≡ Some p → w ≡ Some p' → p ≡ p'
 one_span a b = cc
 
-not_both : {X : Type 0} {w : Words} {p : Span} → w ≡ NoWords → w ≡ IsWords p → X
+not_both : {X : Type 0} {w : Option Span} {p : Span} → w ≡ None → w ≡ Some p → X
 not_both a b = absurd (let z : ◌≡◌ {A = ℕ} 0 1 = cc in omega arith)
 
-reply_alike : {a b d d' : Bytes} {w : Words} → ((p : Span) → w ≡ IsWords p → (v v' : Bytes) → Text (take p.len (drop p.start a)) v → Text (take p.len (drop p.start b)) v' → v ≡ v') → Reply a w d → Reply b w d' → d ≡ d'
+reply_alike : {a b d d' : Bytes} {w : Option Span} → ((p : Span) → w ≡ Some p → (v v' : Bytes) → Text (take p.len (drop p.start a)) v → Text (take p.len (drop p.start b)) v' → v ≡ v') → Reply a w d → Reply b w d' → d ≡ d'
 reply_alike {a} {b} h (same_id_case p e l v t k f) (same_id_case p' e' l' v' t' k' f') =
     f ∙ ap (λ (v : Bytes). written_of (same_of (length v)) v) (h p e v v' t (subst (λ (p : Span). Text (take p.len (drop p.start b)) v') (one_span e' e) t')) ∙ sym f'
 reply_alike h (same_id_case p e l v t k f) (no_id_case e' f') = not_both e' e

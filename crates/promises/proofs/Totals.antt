@@ -1,4 +1,6 @@
 -- Every call has a result that meets its promise, so no premise that a promise is met is empty.
+use Rattle.std.specs.Prelude.{Option, Some, None}
+use Rattle.value.specs.declared.text.Span.{Span}
 use mathlib.Core.Path.{◌≡◌, refl, sym, ap, subst, ◌∙◌}
 use mathlib.Core.List.{[], ◌++◌}
 use mathlib.Core.Bool.{true}
@@ -14,8 +16,6 @@ use Rattle.grammar.specs.Message.{Laid}
 use Rattle.grammar.specs.Answer.{Answer, Answers, ends_at, more_from, malformed_at, too_long_from}
 use Rattle.model.proofs.Theorems.{answers_total}
 use Rattle.lane.specs.declared.Lane.{Lane}
-use Rattle.value.specs.declared.text.Words.{Words}
-use Rattle.value.specs.declared.text.Words.TheVariants.{Absent as NoWords, Present as IsWords}
 use Rattle.message.specs.Checked.{Checks, ends, more, malformed, too_long, checked_as, unread}
 use Rattle.message.specs.declared.checking.Checked.{Checked}
 use Rattle.message.specs.declared.cells.Message.{Message}
@@ -48,13 +48,13 @@ check_total s = go (answers_total s).0 (answers_total s).1
     go (malformed_at start place) x = (unread 2 start place, malformed start place x refl)
     go (too_long_from start) x = (unread 3 start 0, too_long start x refl)
 
-reply_total : (s : Bytes) (w : Words) → Sound s w → (b : Bytes) × Reply s w b
-reply_total s NoWords h = (written_of bare_of [], no_id_case refl refl)
-reply_total s (IsWords p) h = let (v, t, l, k) = h p refl in (written_of (same_of (length v)) v, same_id_case p refl l v t k refl)
+reply_total : (s : Bytes) (w : Option Span) → Sound s w → (b : Bytes) × Reply s w b
+reply_total s None h = (written_of bare_of [], no_id_case refl refl)
+reply_total s (Some p) h = let (v, t, l, k) = h p refl in (written_of (same_of (length v)) v, same_id_case p refl l v t k refl)
 
-carried_total : (s : Bytes) (w : Words) → Sound s w → (f : Carried) × Carries s w f
-carried_total s NoWords h = (no_forecast_case, carries_none refl refl)
-carried_total s (IsWords p) h = let (v, t, l, k) = h p refl in (a_forecast v, carries_one p refl v t refl)
+carried_total : (s : Bytes) (w : Option Span) → Sound s w → (f : Carried) × Carries s w f
+carried_total s None h = (no_forecast_case, carries_none refl refl)
+carried_total s (Some p) h = let (v, t, l, k) = h p refl in (a_forecast v, carries_one p refl v t refl)
 
 owed_total : (s : Bytes) (m : Message) (n : ℕ) → Sound s (reply_id m) → (b : Bytes) × Owes s m n b
 owed_total s m n h = cases (eqb n 1) (λ e. ([], nothing_yet (eqb-true n 1 e) refl)) (λ e. cases (eqb n 0) (λ z. cases (asks_reply m) (λ a. replied (eqb-true n 0 z) a) (λ a. ([], no_reply (eqb-true n 0 z) a refl))) (λ z. (notice n, a_notice (eqb-false n 0 z) (eqb-false n 1 e) refl)))

@@ -27,13 +27,10 @@ use Rattle.lane.specs.declared.Event.{Event}
 use Rattle.lane.specs.declared.Lane.{Lane}
 use Rattle.lane.specs.declared.Moved.{Moved}
 use Rattle.lane.specs.declared.ids.Forecast.{Forecast}
-use Rattle.value.specs.declared.text.Words.TheVariants.{Absent as NoWords, Present as IsWords}
 use Rattle.table.specs.Table.{table}
 use Rattle.message.specs.Fields.{Field, a_words, a_whole, a_measure, a_guid, a_features}
 use Rattle.message.specs.Cells.{cells_of, fields_from, field_by, words_by, whole_by, measure_by, guid_by, features_by}
 use Rattle.message.specs.Messages.{message_from, fields_of, id_of, with_zeros}
-use Rattle.message.specs.declared.values.Whole.TheVariants.{Present as IsWhole}
-use Rattle.message.specs.declared.values.Measure.TheVariants.{Absent as NoMeasure}
 use Rattle.message.specs.declared.cells.Message.{Message}
 use Rattle.meant.specs.Meant.{meant_by, meant_of, refusal_of}
 use Rattle.meant.specs.Written.{written_of}
@@ -166,38 +163,38 @@ abbrev pub texts : Bytes
 texts = text "1.6"
 
 abbrev words : Field
-words = a_words (IsWords (record { start = 0; len = 3 }))
+words = a_words (Some (record { start = 0; len = 3 }))
 
 abbrev board : Bytes
 board = text "aaaaaaaa-aaaa-aaaa-aaaa-aaaaaaaaaaaa"
 
 abbrev id : Field
-id = a_guid (record { there = true; bytes = board })
+id = a_guid (Some board)
 
 abbrev none : Field
-none = a_measure NoMeasure
+none = a_measure None
 
 abbrev pub service : Message
-service = message_from ServiceDescription (words ∷ a_whole (IsWhole 1) ∷ words ∷ a_features (record { there = true; forecast = false; query = false; send = false }) ∷ [])
+service = message_from ServiceDescription (words ∷ a_whole (Some 1) ∷ words ∷ a_features (Some (record { forecast = false; query = false; send = false })) ∷ [])
 
 abbrev offer : Message
-offer = message_from BoardAvailable (id ∷ words ∷ a_whole (IsWhole 1) ∷ a_words NoWords ∷ a_whole (IsWhole 0) ∷ a_words NoWords ∷ a_words NoWords ∷ none ∷ none ∷ none ∷ none ∷ none ∷ none ∷ none ∷ a_words NoWords ∷ [])
+offer = message_from BoardAvailable (id ∷ words ∷ a_whole (Some 1) ∷ a_words None ∷ a_whole (Some 0) ∷ a_words None ∷ a_words None ∷ none ∷ none ∷ none ∷ none ∷ none ∷ none ∷ none ∷ a_words None ∷ [])
 
 abbrev transported : List Message
 transported =
     message_from StartTransport (id ∷ none ∷ [])
-    ∷ message_from TransportFinished (a_whole (IsWhole 3) ∷ id ∷ [])
-    ∷ message_from StopTransport (a_whole (IsWhole 3) ∷ id ∷ [])
+    ∷ message_from TransportFinished (a_whole (Some 3) ∷ id ∷ [])
+    ∷ message_from StopTransport (a_whole (Some 3) ∷ id ∷ [])
     ∷ []
 
 abbrev samples : List Message
-samples = service ∷ service ∷ offer ∷ message_from MachineReady (a_whole (IsWhole 1) ∷ a_words NoWords ∷ []) ∷ transported
+samples = service ∷ service ∷ offer ∷ message_from MachineReady (a_whole (Some 1) ∷ a_words None ∷ []) ∷ transported
 
 abbrev forecast : Message
-forecast = message_from BoardForecast (words ∷ none ∷ id ∷ a_words NoWords ∷ a_whole (IsWhole 1) ∷ a_words NoWords ∷ a_whole (IsWhole 0) ∷ a_words NoWords ∷ a_words NoWords ∷ none ∷ none ∷ none ∷ none ∷ none ∷ none ∷ none ∷ a_words NoWords ∷ [])
+forecast = message_from BoardForecast (words ∷ none ∷ id ∷ a_words None ∷ a_whole (Some 1) ∷ a_words None ∷ a_whole (Some 0) ∷ a_words None ∷ a_words None ∷ none ∷ none ∷ none ∷ none ∷ none ∷ none ∷ none ∷ a_words None ∷ [])
 
 abbrev changing : List Message
-changing = service ∷ service ∷ forecast ∷ message_from MachineReady (a_whole (IsWhole 1) ∷ words ∷ []) ∷ offer ∷ transported
+changing = service ∷ service ∷ forecast ∷ message_from MachineReady (a_whole (Some 1) ∷ words ∷ []) ∷ offer ∷ transported
 
 abbrev Fine : List Said → List Message → Type 0
 Fine [] [] = Unit {0}

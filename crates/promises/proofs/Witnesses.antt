@@ -1,4 +1,6 @@
 -- Witnesses: what the theorems on replies and on 7 assume is met, by whole inputs and by a message.
+use Rattle.std.specs.Prelude.{Option}
+use Rattle.value.specs.declared.text.Span.{Span}
 use mathlib.Core.Path.{◌≡◌, refl, ap, ◌∙◌}
 use mathlib.Core.List.{[], ◌++◌}
 use mathlib.Core.Bool.{true}
@@ -28,7 +30,6 @@ use Rattle.lane.specs.Chart.{chart, by_rows, next}
 use Rattle.lane.specs.Record.{fresh, sent, righted}
 use Rattle.lane.proofs.Free.{check_alive_received}
 use Rattle.lane.specs.declared.Lane.{Lane}
-use Rattle.value.specs.declared.text.Words.{Words}
 use Rattle.table.specs.Table.{table}
 use Rattle.table.specs.Says.{judged, tried, refusal_of, child_of, said_of}
 use Rattle.message.specs.Fields.{field_for, fields_in}
@@ -55,7 +56,7 @@ abbrev ping : String
 ping = "<Hermes><CheckAlive Type=\"1\" Id=\"a\"/></Hermes>"
 
 ping_reads : (message_p (text ping) ≡ done (reading_of ping) []) × ((said_of (reading_of ping)).kind ≡ CheckAlive) × ((said_of (reading_of ping)).refusal ≡ 0)
-    × ((place : Bytes → Words) → asks_reply (message_of (said_of (reading_of ping)).kind place (child_of (reading_of ping))) ≡ true)
+    × ((place : Bytes → Option Span) → asks_reply (message_of (said_of (reading_of ping)).kind place (child_of (reading_of ping))) ≡ true)
 unfolding read_value read_item utf8 loop_p within digit is_char is_glue letter name_start name_byte is_quote banned plain_byte char_p close_p elem_p leaf_tag_p node_tag_p content_turn_p content_p no_dash_p dash_p mark_p marks_p comment_p text_p markup_p bit_p peek_p fill_p root_p layout_p message_p live new item_p VturnP value_p end_p quoted_p equals_p attr_p AturnP head_p table tried refusal_of int_of signed sized trim drop_back drop_front keep_before blank some_byte every is_digit value_from judged message_from fields_in field_for asks_reply fields_of with_zeros cells_of fields_from field_by words_by whole_by
 ping_reads = (refl, refl, refl, λ place. refl)
 

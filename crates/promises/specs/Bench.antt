@@ -1,5 +1,6 @@
 -- "Proved, together as one table (P)": the bench cases P1 to P12, over the definitions.
-use Rattle.std.specs.Prelude.{◌≡◌, refl, List, [], ◌∷◌, false, ℕ, length}
+use Rattle.value.specs.declared.text.Span.{Span}
+use Rattle.std.specs.Prelude.{◌≡◌, refl, List, [], ◌∷◌, false, ℕ, length, Option}
 use Prim.Native.String.{String}
 use Rattle.exact.specs.Exact.{Out, done, more, bad}
 use Rattle.exact.specs.Loop.{loop_p}
@@ -37,7 +38,6 @@ use Rattle.message.specs.Fields.{field_for, fields_in}
 use Rattle.message.specs.Checked.{message_of}
 use Rattle.message.specs.Cells.{cells_of, fields_from, field_by, guid_by}
 use Rattle.message.specs.Messages.{message_from, id_of, fields_of, with_zeros}
-use Rattle.value.specs.declared.text.Words.{Words}
 use Rattle.meant.specs.Events.{Carried, event_of}
 
 pub data Case : Type 0 where
@@ -60,7 +60,7 @@ reading_of s = reading_in (message_p (text s))
 
 -- what a reading does to a lane: of texts only the places are told, and they do not matter, nor does a ForecastId
 abbrev pub Moves : Lane → Tree → Moved → Type 0
-Moves l t v = (place : Bytes → Words) (f : Carried) → received l (event_of (message_of (said_of t).kind place (child_of t)) f) ≡ v
+Moves l t v = (place : Bytes → Option Span) (f : Carried) → received l (event_of (message_of (said_of t).kind place (child_of t)) f) ≡ v
 
 abbrev pub Holds : Case → Type 0
 Holds (reads s a) = answer_of (text s) ≡ a

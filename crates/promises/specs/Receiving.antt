@@ -1,18 +1,16 @@
 -- What receiving promises. (`take` is for an edit of must-fail/ alone.)
-use Rattle.std.specs.Prelude.{◌≡◌, List, [], Bool, true, false, ◌&&◌, cond, ℕ, length, take, eqb, leb}
+use Rattle.value.specs.declared.text.Span.{Span}
+use Rattle.std.specs.Prelude.{◌≡◌, List, [], Bool, true, false, ◌&&◌, cond, ℕ, length, take, eqb, leb, Option, Some, None}
 use Rattle.lane.specs.Names.{NoOrder, CheckAlive}
 use Rattle.lane.specs.Record.{ended, kept, received}
 use Rattle.lane.specs.declared.Event.{Event}
 use Rattle.lane.specs.declared.Lane.{Lane}
 use Rattle.lane.specs.declared.Moved.{Moved}
 use Rattle.grammar.specs.Bytes.{Bytes}
-use Rattle.value.specs.declared.text.Words.{Words}
 use Rattle.message.specs.Fields.{the_words, the_whole}
 use Rattle.message.specs.Checked.{Checks}
 use Rattle.message.specs.Messages.{message_by, blank, called}
 use Rattle.message.specs.declared.checking.Checked.{Checked}
-use Rattle.message.specs.declared.values.Whole.{Whole}
-use Rattle.message.specs.declared.values.Whole.TheVariants.{Absent as NoWhole, Present as IsWhole}
 use Rattle.message.specs.declared.cells.Message.{Message}
 use Rattle.meant.specs.Notices.{notice}
 use Rattle.meant.specs.First.{first_in}
@@ -22,15 +20,15 @@ use Rattle.promises.specs.declared.Receipt.{Receipt}
 use Rattle.promises.specs.declared.Received.{Received}
 
 -- "A received CheckAlive of Type 1 is replied to"
-abbrev pub is_ping : Whole → Bool
-is_ping NoWhole = false
-is_ping (IsWhole n) = eqb n 1
+abbrev pub is_ping : Option ℕ → Bool
+is_ping None = false
+is_ping (Some n) = eqb n 1
 
 unfoldable pub asks_reply : Message → Bool
 asks_reply m = eqb m.kind CheckAlive && is_ping (the_whole (called "Type" m))
 
 -- the Id that a reply has too
-unfoldable pub reply_id : Message → Words
+unfoldable pub reply_id : Message → Option Span
 reply_id m = the_words (called "Id" m)
 
 -- "Attributes are tried in table order, each for 4, 5, 6; the first decides, then 9": what `check` refuses does not reach the chart. 1 keeps the record.

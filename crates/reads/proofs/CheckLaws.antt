@@ -9,7 +9,7 @@ use Rattle.grammar.specs.Message.{read_layout}
 use Rattle.table.specs.Table.{Row, rows_of}
 use Rattle.table.specs.Says.{refusal_of, child_of, said_of}
 use Rattle.table.specs.Theorems.{rows_table}
-use Rattle.value.specs.Ids.{no_id}
+use Rattle.value.specs.Ids.{no_bytes}
 use Rattle.message.specs.Fields.{Field, fields_in}
 use Rattle.message.specs.Cells.{NUMBERS, fields_from, cells_of}
 use Rattle.message.specs.Checked.{places_in, message_of, Checks, ends as ends_so, more as more_so, malformed as malformed_so, too_long as too_long_so, ChecksInto}
@@ -96,8 +96,8 @@ check_refused {s} {before} {after} {o} {m} {r} x z q h = go x
     go (malformed start place p e c) = malformed_so start place p (told e)
     go (too_long start p e c) = too_long_so start p (told e)
 
-pub into_refused : {s : Bytes} {before after told : List ℕ} {o : Outcome} {r : Found} → CellsChecked s before after o → (o.refusal ≡ 0 → ⊥) → told ≡ zeros → r ≡ found_by o no_id.bytes → ChecksInto s told r
-into_refused {s} {told} {o} x z t h = subst (λ (r : Found). ChecksInto s told r) (sym h) (subst (λ (l : List ℕ). ChecksInto s l (found_by o no_id.bytes)) (sym t) (record { checks = check_refused x z refl refl; long = all_cells refl }))
+pub into_refused : {s : Bytes} {before after told : List ℕ} {o : Outcome} {r : Found} → CellsChecked s before after o → (o.refusal ≡ 0 → ⊥) → told ≡ zeros → r ≡ found_by o no_bytes → ChecksInto s told r
+into_refused {s} {told} {o} x z t h = subst (λ (r : Found). ChecksInto s told r) (sym h) (subst (λ (l : List ℕ). ChecksInto s l (found_by o no_bytes)) (sym t) (record { checks = check_refused x z refl refl; long = all_cells refl }))
 
 -- the message that the cells are
 pub handed : {s : Bytes} {cells : List ℕ} {f : Found} → ChecksInto s cells f → Checks s (record { refusal = f.refusal; start = f.start; end = f.end; place = f.place; message = message_by f.kind cells f.id })

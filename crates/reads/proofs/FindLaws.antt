@@ -1,4 +1,6 @@
 -- Attributes of a tag, one by one, and the one of a name.
+use Rattle.std.specs.Prelude.{Option, Some, None}
+use Rattle.value.specs.declared.text.Span.{Span}
 use mathlib.Core.Path.{◌≡◌, refl, sym, ap, subst, ◌∙◌}
 use mathlib.Core.List.{List, [], ◌∷◌, ◌++◌}
 use mathlib.Core.Bool.{Bool, true, false, ◌||◌, not, cond}
@@ -17,14 +19,12 @@ use Rattle.model.specs.Tests.{and_left, and_right, same_true}
 use Rattle.grammar.specs.Places.{name_at, name_end, value_at, value_end}
 use Rattle.tags.specs.Places.{places}
 use Rattle.model.specs.Standing.{AttributeAt, attribute_stands}
-use Rattle.value.specs.declared.text.Words.{Words}
-use Rattle.value.specs.declared.text.Words.TheVariants.{Absent, Present}
 use Rattle.message.specs.Checked.{place_of}
 use Rattle.message.proofs.PlaceLaws.{attribute_in}
 use Rattle.reads.specs.Held.{Held, Called, Lies, place}
 
 -- from row i on the table holds the attributes that are left, which stand from `at` on, counted from `base`
-pub record Left (s : Bytes) (base : ℕ) (table : List ℕ) (count i : ℕ) (name : Bytes) (whole : Words) : Type 0 where
+pub record Left (s : Bytes) (base : ℕ) (table : List ℕ) (count i : ℕ) (name : Bytes) (whole : Option Span) : Type 0 where
   pub at : ℕ
   pub attributes : List Attribute
   pub after : Bytes
@@ -49,13 +49,13 @@ left_all {s} {base} h name = record {
 }
 
 -- the row i, with its four places: what stands there, and what is left
-pub record RowAt (s : Bytes) (base : ℕ) (table : List ℕ) (count i : ℕ) (name : Bytes) (whole : Words) (from to start end : ℕ) : Type 0 where
+pub record RowAt (s : Bytes) (base : ℕ) (table : List ℕ) (count i : ℕ) (name : Bytes) (whole : Option Span) (from to start end : ℕ) : Type 0 where
   pub long : 4 * i + 3 < length table
   pub name_order : from ≤ to
   pub name_in_lem : to ≤ length s
   pub value_order : start ≤ end
   pub value_in_holds : end ≤ length s
-  pub hit : same name (take (to - from) (drop from s)) ≡ true → whole ≡ Present (record { start = start; len = end - start })
+  pub hit : same name (take (to - from) (drop from s)) ≡ true → whole ≡ Some (record { start = start; len = end - start })
   pub miss : same name (take (to - from) (drop from s)) ≡ false → Left s base table count (i + 1) name whole
 
 pub first_of : (t : List ℕ) (n x : ℕ) (l : List ℕ) → drop n t ≡ x ∷ l → (n < length t) × (get_or t n 0 ≡ x) × (drop (n + 1) t ≡ l)
@@ -84,7 +84,7 @@ four_of t n a b c d l e =
     at_next : (k : ℕ) {l : List ℕ} → drop (n + k + 1) t ≡ l → drop (n + (k + 1)) t ≡ l
     at_next k {l} e = let q : n + k + 1 ≡ n + (k + 1) = omega arith in subst (λ (m : ℕ). drop m t ≡ l) q e
 
-module _ (s : Bytes) (base : ℕ) (table : List ℕ) (count i : ℕ) (name : Bytes) (whole : Words) (rel at : ℕ) (a : Attribute) (l : List Attribute) (after : Bytes) (rest : List ℕ)
+module _ (s : Bytes) (base : ℕ) (table : List ℕ) (count i : ℕ) (name : Bytes) (whole : Option Span) (rel at : ℕ) (a : Attribute) (l : List Attribute) (after : Bytes) (rest : List ℕ)
     (good : GoodEach l)
     (stand : drop at s ≡ spell_attributes (a ∷ l) ++ after)
     (rows : drop (4 * i) table ≡ places rel (a ∷ l) ++ rest)
@@ -98,11 +98,11 @@ module _ (s : Bytes) (base : ℕ) (table : List ℕ) (count i : ℕ) (name : Byt
   unfolding places
   table_row = four_of table (4 * i) (name_at rel a) (name_end rel a) (value_at rel a) (value_end rel a) (places (value_end rel a + 1) l ++ rest) rows
 
-  placed : (z : Bool) → same name (take (name_end at a - name_at at a) (drop (name_at at a) s)) ≡ z → whole ≡ cond z (Present (record { start = value_at at a; len = length (spell_value a.value) })) (place_of (value_end at a + 1) l name)
+  placed : (z : Bool) → same name (take (name_end at a - name_at at a) (drop (name_at at a) s)) ≡ z → whole ≡ cond z (Some (record { start = value_at at a; len = length (spell_value a.value) })) (place_of (value_end at a + 1) l name)
   unfolding place_of
   placed z e =
       let f : same name a.name ≡ z = ap (λ (n : Bytes). same name n) (sym stands.name) ∙ e in
-      same_place ∙ ap (λ (z : Bool). cond z (Present (record { start = value_at at a; len = length (spell_value a.value) })) (place_of (value_end at a + 1) l name)) f
+      same_place ∙ ap (λ (z : Bool). cond z (Some (record { start = value_at at a; len = length (spell_value a.value) })) (place_of (value_end at a + 1) l name)) f
 
   next : base + (value_end rel a + 1) ≡ value_end at a + 1
   next = omega arith
@@ -121,7 +121,7 @@ module _ (s : Bytes) (base : ℕ) (table : List ℕ) (count i : ℕ) (name : Byt
     name_in_lem = let z = attribute_in s at a l after stand in omega arith;
     value_order = omega arith;
     value_in_holds = let z = attribute_in s at a l after stand in omega arith;
-    hit = λ e. let q : length (spell_value a.value) ≡ value_end at a - value_at at a = omega arith in placed true e ∙ ap (λ (n : ℕ). Present (record { start = value_at at a; len = n })) q;
+    hit = λ e. let q : length (spell_value a.value) ≡ value_end at a - value_at at a = omega arith in placed true e ∙ ap (λ (n : ℕ). Some (record { start = value_at at a; len = n })) q;
     miss = λ e. record {
       at = value_end rel a + 1;
       attributes = l;
@@ -156,7 +156,7 @@ module _ (s : Bytes) (base : ℕ) (table : List ℕ) (count i : ℕ) (name : Byt
 each_but : {a : Attribute} {l : List Attribute} → GoodEach (a ∷ l) → GoodEach l
 each_but (good_each g r) = r
 
-pub row_at : {s : Bytes} {base : ℕ} {table : List ℕ} {count i : ℕ} {name : Bytes} {whole : Words} → Left s base table count i name whole → i < count
+pub row_at : {s : Bytes} {base : ℕ} {table : List ℕ} {count i : ℕ} {name : Bytes} {whole : Option Span} → Left s base table count i name whole → i < count
     → RowAt s base table count i name whole (base + get_or table (4 * i) 0) (base + get_or table (4 * i + 1) 0) (base + get_or table (4 * i + 2) 0) (base + get_or table (4 * i + 3) 0)
 row_at {s} {base} {table} {count} {i} {name} {whole} f k = go f.attributes f.good f.stand f.rows f.counts f.same_place
   where
@@ -166,17 +166,17 @@ row_at {s} {base} {table} {count} {i} {name} {whole} f k = go f.attributes f.goo
     go (x ∷ l) g a b c d = by_table s base table count i name whole f.at (base + f.at) x l f.after f.rest (each_but g) a b c d refl
 
 -- behind the last row there is none of the name
-pub none_left : {s : Bytes} {base : ℕ} {table : List ℕ} {count i : ℕ} {name : Bytes} {whole : Words} → Left s base table count i name whole → count ≤ i → Absent ≡ whole
+pub none_left : {s : Bytes} {base : ℕ} {table : List ℕ} {count i : ℕ} {name : Bytes} {whole : Option Span} → Left s base table count i name whole → count ≤ i → None ≡ whole
 unfolding place_of
 none_left {base = base} {count = count} {i = i} {name = name} {whole = whole} f k = go f.attributes f.counts f.same_place
   where
-    go : (l : List Attribute) → count ≡ i + length l → whole ≡ place_of (base + f.at) l name → Absent ≡ whole
+    go : (l : List Attribute) → count ≡ i + length l → whole ≡ place_of (base + f.at) l name → None ≡ whole
     go [] c d = sym d
     go (x ∷ l) c d = absurd (omega arith)
 
 -- a step of the search
-module _ {s : Bytes} {base : ℕ} {table : List ℕ} {count i : ℕ} {name : Bytes} {whole : Words} {r : Bool} (f : Left s base table count i name whole) (h : i < count) (e : Called s base table i name r) where
-  pub search_hit : {w : Words} → r ≡ true → Lies base table i w → w ≡ whole
+module _ {s : Bytes} {base : ℕ} {table : List ℕ} {count i : ℕ} {name : Bytes} {whole : Option Span} {r : Bool} (f : Left s base table count i name whole) (h : i < count) (e : Called s base table i name r) where
+  pub search_hit : {w : Option Span} → r ≡ true → Lies base table i w → w ≡ whole
   search_hit t q = q ∙ sym ((row_at f h).hit (sym e ∙ t))
 
   pub search_miss : r ≡ false → Left s base table count (i + 1) name whole
@@ -227,8 +227,8 @@ other_way x y e = go (same y x) refl
 
 -- no name stands twice: where the attribute i of those that are left has the name, its value is that of the name, and none of the earlier has the name
 module _ (s : Bytes) (base : ℕ) (table : List ℕ) (name : Bytes) where
-  abbrev Told : ℕ → Words → Type 0
-  Told k w = w ≡ Present (record { start = base + get_or table (4 * k + 2) 0; len = base + get_or table (4 * k + 3) 0 - (base + get_or table (4 * k + 2) 0) })
+  abbrev Told : ℕ → Option Span → Type 0
+  Told k w = w ≡ Some (record { start = base + get_or table (4 * k + 2) 0; len = base + get_or table (4 * k + 3) 0 - (base + get_or table (4 * k + 2) 0) })
 
   abbrev Hits : ℕ → Type 0
   Hits k = same name (take (base + get_or table (4 * k + 1) 0 - (base + get_or table (4 * k) 0)) (drop (base + get_or table (4 * k) 0) s)) ≡ true
@@ -252,9 +252,9 @@ module _ (s : Bytes) (base : ℕ) (table : List ℕ) (name : Bytes) where
       let (p, q) = guess_at i (j + 1) (value_end rel x + 1) l after rest (x.name ∷ earlier) (each_but g) (and_right (not (among earlier x.name)) (fresh (x.name ∷ earlier) l) f) (stands_next s base table (j + suc (length l)) j name (place_of (base + rel) (x ∷ l) name) rel (base + rel) x l after rest (each_but g) a b refl refl refl) (rows_next s base table (j + suc (length l)) j name (place_of (base + rel) (x ∷ l) name) rel (base + rel) x l after rest (each_but g) a b refl refl refl) (omega arith) (subst Hits n k) in
       let (y, z) = none_of (same x.name name) (among earlier name) q in
       let e : base + (value_end rel x + 1) ≡ value_end (base + rel) x + 1 = omega arith in
-      (ap (λ (b : Bool). cond b (Present (record { start = value_at (base + rel) x; len = length (spell_value x.value) })) (place_of (value_end (base + rel) x + 1) l name)) (other_way x.name name y) ∙ ap (λ (n : ℕ). place_of n l name) (sym e) ∙ subst (λ (m : ℕ). Told m (place_of (base + (value_end rel x + 1)) l name)) (sym n) p, z)
+      (ap (λ (b : Bool). cond b (Some (record { start = value_at (base + rel) x; len = length (spell_value x.value) })) (place_of (value_end (base + rel) x + 1) l name)) (other_way x.name name y) ∙ ap (λ (n : ℕ). place_of n l name) (sym e) ∙ subst (λ (m : ℕ). Told m (place_of (base + (value_end rel x + 1)) l name)) (sym n) p, z)
 
-  pub guessed : {count i : ℕ} {r : Bool} {w : Words} (h : Held s base table count) → i < count → Called s base table i name r → r ≡ true → Lies base table i w → w ≡ place h name
+  pub guessed : {count i : ℕ} {r : Bool} {w : Option Span} (h : Held s base table count) → i < count → Called s base table i name r → r ≡ true → Lies base table i w → w ≡ place h name
   guessed {count} {i} h lt e t q =
       let z : i ≡ 0 + i = omega arith in
       let z' : 0 + i ≡ i = omega arith in

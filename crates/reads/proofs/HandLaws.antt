@@ -1,4 +1,7 @@
 -- The fields that the cells of an accepted message are, are those of its reading.
+use Rattle.std.specs.Prelude.{Option, Some, None}
+use Rattle.value.specs.declared.text.Span.{Span}
+use Rattle.message.specs.declared.values.Decimal.{Decimal}
 use mathlib.Core.Path.{◌≡◌, refl, sym, ap, subst, ◌∙◌}
 use mathlib.Core.List.{List, [], ◌∷◌, ◌++◌}
 use mathlib.Core.Bool.{Bool, true, false, ◌&&◌, not, cond}
@@ -10,23 +13,15 @@ use Rattle.grammar.specs.Bytes.{Bytes}
 use Rattle.grammar.specs.Tree.{Tree}
 use Rattle.grammar.specs.Message.{Layout, Laid, read_layout}
 use Rattle.number.specs.Guid.{guid_of}
-use Rattle.value.specs.Ids.{no_id}
-use Rattle.value.specs.declared.id.Guid.{Guid}
-use Rattle.value.specs.declared.text.Words.{Words}
-use Rattle.value.specs.declared.text.Words.TheVariants.{Absent as NoWords, Present as IsWords}
 use Rattle.table.specs.Table.{Row, Form, words, some_words, whole, guid, version, positive, features, rows_of, is_guid, guid_cell_in}
 use Rattle.table.specs.Theorems.{plain_need, plain_rows, plain_table, plain_flag}
 use Rattle.message.proofs.MessageLaws.{plain_placed}
 use Rattle.table.specs.Says.{a_text, an_int, millionths, an_id, noted, Result, absent, present, refused, refusal_in, when, without, judged, given, tried, first, refusal_of, child_of}
 use Rattle.message.specs.Fields.{Field, a_words, a_whole, a_measure, a_guid, a_features, whole_in, measure_in, id_in, features_in, field_for, field_of, fields_in}
-use Rattle.message.specs.Cells.{NUMBERS, words_by, whole_by, measure_by, guid_by, features_by, field_by, cell_at, fields_from, flag, words_cell, whole_cell, measure_cell, features_cell, cell_of, cells_of}
+use Rattle.message.specs.Cells.{NUMBERS, words_by, whole_by, measure_by, guid_by, features_by, field_by, cell_at, fields_from, words_cell, guid_cell, whole_cell, measure_cell, features_cell, cell_of, cells_of}
 use Rattle.message.specs.Checked.{places_in}
 use Rattle.message.specs.Handed.{attributes_of}
 use Rattle.message.specs.Messages.{id_cell}
-use Rattle.message.specs.declared.values.Whole.{Whole}
-use Rattle.message.specs.declared.values.Whole.TheVariants.{Absent as NoWhole, Present as IsWhole}
-use Rattle.message.specs.declared.values.Measure.{Measure}
-use Rattle.message.specs.declared.values.Measure.TheVariants.{Absent as NoMeasure, Present as IsMeasure}
 use Rattle.reads.specs.Kept.{kept_of, tried_by, kept_in}
 use Rattle.reads.specs.Ids.{IdOf, IdAt, bared, taken}
 use Rattle.reads.proofs.FindLaws.{first_of}
@@ -37,20 +32,20 @@ use Rattle.reads.proofs.LoopLaws.{three, next_cell}
 use Rattle.message.proofs.HandedLaws.{there_reads, absent_worth}
 
 -- the field of a cell
-of_words : (w : Words) → words_by (get_or (words_cell w) 0 0) (get_or (words_cell w) 1 0) (get_or (words_cell w) 2 0) ≡ w
+of_words : (w : Option Span) → words_by (get_or (words_cell w) 0 0) (get_or (words_cell w) 1 0) (get_or (words_cell w) 2 0) ≡ w
 unfolding words_by
-of_words NoWords = refl
-of_words (IsWords p) = refl
+of_words None = refl
+of_words (Some p) = refl
 
-of_whole : (v : Whole) → whole_by (get_or (whole_cell v) 0 0) (get_or (whole_cell v) 1 0) ≡ v
+of_whole : (v : Option ℕ) → whole_by (get_or (whole_cell v) 0 0) (get_or (whole_cell v) 1 0) ≡ v
 unfolding whole_by
-of_whole NoWhole = refl
-of_whole (IsWhole n) = refl
+of_whole None = refl
+of_whole (Some n) = refl
 
-of_measure : (v : Measure) → measure_by (get_or (measure_cell v) 0 0) (get_or (measure_cell v) 1 0) (get_or (measure_cell v) 2 0) ≡ v
+of_measure : (v : Option Decimal) → measure_by (get_or (measure_cell v) 0 0) (get_or (measure_cell v) 1 0) (get_or (measure_cell v) 2 0) ≡ v
 unfolding measure_by
-of_measure NoMeasure = refl
-of_measure (IsMeasure n d) = refl
+of_measure None = refl
+of_measure (Some d) = refl
 
 of_features : (x : Result) → features_by (get_or (features_cell (features_in x)) 0 0) (get_or (features_cell (features_in x)) 1 0) ≡ features_in x
 unfolding features_by
@@ -70,21 +65,25 @@ of_features (present (noted false false true)) = refl
 of_features (present (noted false false false)) = refl
 
 -- the id is that of a row, whose raw value stands at w, if the row is a GUID
-abbrev IdIs : Form → Words → Result → Bytes → Type 0
+abbrev IdIs : Form → Option Span → Result → Bytes → Type 0
 IdIs t w x id = is_guid t ≡ true → guid_by (get_or (words_cell w) 0 0) id ≡ id_in x
 
 abbrev by : Form → List ℕ → Bytes → Field
 by t c id = field_by t (get_or c 0 0) (get_or c 1 0) (get_or c 2 0) id
 
-there_flag : (w : Words) (id : Bytes) → flag (guid_by (get_or (words_cell w) 0 0) id).there ≡ get_or (words_cell w) 0 0
+there_flag : (w : Option Span) (id : Bytes) → get_or (guid_cell (guid_by (get_or (words_cell w) 0 0) id)) 0 0 ≡ get_or (words_cell w) 0 0
 unfolding guid_by
-there_flag NoWords id = refl
-there_flag (IsWords p) id = refl
+there_flag None id = refl
+there_flag (Some p) id = refl
 
-id_flag : (w : Words) (x : Result) (id : Bytes) → guid_by (get_or (words_cell w) 0 0) id ≡ id_in x → flag (id_in x).there ≡ get_or (words_cell w) 0 0
-id_flag w x id h = ap (λ (g : Guid). flag g.there) (sym h) ∙ there_flag w id
+guid_three : (g : Option Bytes) (l rest : List ℕ) → get_or (guid_cell g) 0 0 ∷ 0 ∷ 0 ∷ (l ++ rest) ≡ (guid_cell g ++ l) ++ rest
+guid_three None l rest = refl
+guid_three (Some v) l rest = refl
 
-field_is : (t : Form) (w : Words) (x : Result) (id : Bytes) → IdIs t w x id → by t (cell_of (field_for t w x)) id ≡ field_for t w x
+id_flag : (w : Option Span) (x : Result) (id : Bytes) → guid_by (get_or (words_cell w) 0 0) id ≡ id_in x → get_or (guid_cell (id_in x)) 0 0 ≡ get_or (words_cell w) 0 0
+id_flag w x id h = ap (λ (g : Option Bytes). get_or (guid_cell g) 0 0) (sym h) ∙ there_flag w id
+
+field_is : (t : Form) (w : Option Span) (x : Result) (id : Bytes) → IdIs t w x id → by t (cell_of (field_for t w x)) id ≡ field_for t w x
 unfolding field_by field_for
 field_is (words k) w x id h = ap a_words (of_words w)
 field_is (some_words k) w x id h = ap a_words (of_words w)
@@ -95,7 +94,7 @@ field_is positive w x id h = ap a_measure (of_measure (measure_in x))
 field_is features w x id h = ap a_features (of_features x)
 
 -- the cell of a row that is no GUID is kept as it is told
-kept_told : (t : Form) (w : Words) (x : Result) → is_guid t ≡ false → kept_of t w x ≡ field_for t w x
+kept_told : (t : Form) (w : Option Span) (x : Result) → is_guid t ≡ false → kept_of t w x ≡ field_for t w x
 unfolding kept_of field_for
 kept_told (words k) w x e = refl
 kept_told (some_words k) w x e = refl
@@ -157,24 +156,24 @@ is_guid_lem positive e = clash (sym e)
 is_guid_lem features e = clash (sym e)
 
 -- an id that is not refused
-id_read_lem : (v id : Bytes) → (guid_of v ≡ true → id ≡ v) → refusal_in (judged guid v) ≡ 0 → record { there = true; bytes = id } ≡ id_in (judged guid v)
+id_read_lem : (v id : Bytes) → (guid_of v ≡ true → id ≡ v) → refusal_in (judged guid v) ≡ 0 → Some id ≡ id_in (judged guid v)
 unfolding judged
 id_read_lem v id e z = go (guid_of v) refl
   where
-    go : (b : Bool) → guid_of v ≡ b → record { there = true; bytes = id } ≡ id_in (when (guid_of v) (an_id v))
-    go true f = ap (λ (b : Bytes). record { there = true; bytes = b }) (e f) ∙ sym (ap (λ (b : Bool). id_in (when b (an_id v))) f)
+    go : (b : Bool) → guid_of v ≡ b → Some id ≡ id_in (when (guid_of v) (an_id v))
+    go true f = ap (λ (b : Bytes). Some b) (e f) ∙ sym (ap (λ (b : Bool). id_in (when b (an_id v))) f)
     go false f = absurd (let y = sym (ap (λ (b : Bool). refusal_in (when b (an_id v))) f) ∙ z in omega arith)
 
-no_id_case : (o : Bool) → no_id ≡ id_in (without o)
+no_id_case : (o : Bool) → None ≡ id_in (without o)
 no_id_case true = refl
 no_id_case false = refl
 
-kept_guid : (t : Form) {w : Words} (x : Result) → t ≡ guid → kept_of t w x ≡ a_words w
+kept_guid : (t : Form) {w : Option Span} (x : Result) → t ≡ guid → kept_of t w x ≡ a_words w
 unfolding kept_of
 kept_guid t {w} x e = ap (λ (t : Form). kept_of t w x) e
 
 module _ (s : Bytes) (start end : ℕ) (l : Layout) (laid : Laid (take (end - start) (drop start s)) l) (cells : List ℕ) (id : Bytes) where
-  abbrev at : Bytes → Words
+  abbrev at : Bytes → Option Span
   at = places_in start l
 
   abbrev element : Tree
@@ -197,7 +196,7 @@ module _ (s : Bytes) (start end : ℕ) (l : Layout) (laid : Laid (take (end - st
   told_in_lem [] p = refl
   told_in_lem (r ∷ rows) p =
       let (d, q) = both (plain_need r.need) (plain_rows rows) p in
-      ap (λ (w : Words). field_for r.form w (tried r element) ∷ told_in rows) (sym (plain_placed r.need (at r.name) d)) ∙ ap (λ (l : List Field). field_of r (at r.name) (tried r element) ∷ l) (told_in_lem rows q)
+      ap (λ (w : Option Span). field_for r.form w (tried r element) ∷ told_in rows) (sym (plain_placed r.need (at r.name) d)) ∙ ap (λ (l : List Field). field_of r (at r.name) (tried r element) ∷ l) (told_in_lem rows q)
 
   abbrev IdThere : ℕ → Type 0
   IdThere n = (cell_at cells n ≡ 0 → ⊥) → IdAt s (cell_at cells (n + 1)) (cell_at cells (n + 2)) id
@@ -211,10 +210,10 @@ module _ (s : Bytes) (start end : ℕ) (l : Layout) (laid : Laid (take (end - st
   no_ids (r ∷ rows) e = let (a, b) = both (not (is_guid r.form)) (no_guid rows) e in (λ g. clash (sym (sym (ap not g) ∙ a)), no_ids rows b)
 
   -- the id that is read at the place in the cell of a GUID
-  id_of_lem : (n : Bytes) (o : Bool) (i : ℕ) (w : Words) → at n ≡ w → refusal_in (given guid o n (attributes_of element)) ≡ 0 → cell_at cells (3 * i) ≡ get_or (words_cell w) 0 0 → cell_at cells (3 * i + 1) ≡ get_or (words_cell w) 1 0 → cell_at cells (3 * i + 2) ≡ get_or (words_cell w) 2 0 → IdThere (3 * i) → guid_by (get_or (words_cell w) 0 0) id ≡ id_in (given guid o n (attributes_of element))
+  id_of_lem : (n : Bytes) (o : Bool) (i : ℕ) (w : Option Span) → at n ≡ w → refusal_in (given guid o n (attributes_of element)) ≡ 0 → cell_at cells (3 * i) ≡ get_or (words_cell w) 0 0 → cell_at cells (3 * i + 1) ≡ get_or (words_cell w) 1 0 → cell_at cells (3 * i + 2) ≡ get_or (words_cell w) 2 0 → IdThere (3 * i) → guid_by (get_or (words_cell w) 0 0) id ≡ id_in (given guid o n (attributes_of element))
   unfolding guid_by
-  id_of_lem n o i NoWords e z one two three r = no_id_case o ∙ ap id_in (sym (absent_worth s start end l laid n e guid o))
-  id_of_lem n o i (IsWords p) e z one two three r =
+  id_of_lem n o i None e z one two three r = no_id_case o ∙ ap id_in (sym (absent_worth s start end l laid n e guid o))
+  id_of_lem n o i (Some p) e z one two three r =
       let x = there_reads s start end l laid n p e in
       let y = x.inside in
       let q = (r (λ f. let g = sym one ∙ f in omega arith)).says (omega arith) in
@@ -264,8 +263,8 @@ module _ (s : Bytes) (start end : ℕ) (l : Layout) (laid : Laid (take (end - st
           → bared (cond b (3 * 0) (guid_cell_in NUMBERS rows (0 + 1))) ((tried_by r at element).there ∷ (tried_by r at element).a ∷ (tried_by r at element).b ∷ (cells_of (kept_in rows at element) ++ rest)) ≡ cells_of (field_for r.form (at r.name) (tried r element) ∷ told_in rows) ++ rest
       go true f o e k =
           let g = is_guid_lem r.form f in
-          let t : (tried_by r at element).there ≡ flag (id_in (tried r element)).there = ap (λ (x : Field). get_or (cell_of x) 0 0) (kept_guid r.form (tried r element) g) ∙ sym (id_flag (at r.name) (tried r element) id (h f)) in
-          ap (λ (n : ℕ). n ∷ 0 ∷ 0 ∷ (cells_of (kept_in rows at element) ++ rest)) t ∙ ap (λ (l : List ℕ). flag (id_in (tried r element)).there ∷ 0 ∷ 0 ∷ (l ++ rest)) (plain_cells rows o)
+          let t : (tried_by r at element).there ≡ get_or (guid_cell (id_in (tried r element))) 0 0 = ap (λ (x : Field). get_or (cell_of x) 0 0) (kept_guid r.form (tried r element) g) ∙ sym (id_flag (at r.name) (tried r element) id (h f)) in
+          ap (λ (n : ℕ). n ∷ 0 ∷ 0 ∷ (cells_of (kept_in rows at element) ++ rest)) t ∙ ap (λ (l : List ℕ). get_or (guid_cell (id_in (tried r element))) 0 0 ∷ 0 ∷ 0 ∷ (l ++ rest)) (plain_cells rows o) ∙ guid_three (id_in (tried r element)) told rest
           ∙ ap (λ (F : Form). (cell_of (field_for F (at r.name) (tried r element)) ++ told) ++ rest) (sym g)
       go false f o e k =
           ap (λ (n : ℕ). bared n ((tried_by r at element).there ∷ (tried_by r at element).a ∷ (tried_by r at element).b ∷ (cells_of (kept_in rows at element) ++ rest))) (guid_later rows 0 e)

@@ -1,4 +1,5 @@
 -- The id that stands at the place in its cell.
+use Rattle.std.specs.Prelude.{Option, Some, None}
 use mathlib.Core.Path.{◌≡◌, refl, sym, ap, subst, ◌∙◌}
 use mathlib.Core.List.{List, [], ◌∷◌, ◌++◌}
 use mathlib.Core.Bool.{Bool, true, false, cond}
@@ -13,11 +14,10 @@ use Rattle.grammar.specs.Bytes.{Bytes}
 use Rattle.value.specs.Text.{altered, as_read}
 use Rattle.value.proofs.AsRead.{raw_as_read_iff}
 use Rattle.value.proofs.Loose.{loosen}
-use Rattle.value.specs.Ids.{no_id, id_read, IdReads}
-use Rattle.value.specs.declared.id.Guid.{Guid}
+use Rattle.value.specs.Ids.{no_bytes, id_read, IdReads}
 use Rattle.table.specs.Table.{rows_of, guid_cell_in}
 use Rattle.message.specs.Cells.{NUMBERS, cell_at}
-use Rattle.message.specs.Messages.{id_cell}
+use Rattle.message.specs.Messages.{id_cell, bytes_in}
 use Rattle.reads.specs.Ids.{IdOf, IdAt, TakesId}
 use Rattle.reads.proofs.JudgeLaws.{as_read_lem}
 
@@ -36,7 +36,7 @@ module _ (s : Bytes) (k : ℕ) (before : List ℕ) {at : ℕ} (e : at ≡ guid_c
   unfolding id_cell
   so {after} {r} t = subst (λ (n : ℕ). TakesId s n before after r) e t
 
-  pub takes_none : NUMBERS ≤ at → TakesId s (id_cell k) before before no_id.bytes
+  pub takes_none : NUMBERS ≤ at → TakesId s (id_cell k) before before no_bytes
   takes_none h =
       let f = le-leb NUMBERS at h in
       so (record { id = λ n. absurd (n (get_or-eq_default before 0 (omega arith))); cells = rw f refl; by = rw f refl })
@@ -48,7 +48,7 @@ module _ (s : Bytes) (k : ℕ) (before : List ℕ) {at : ℕ} (e : at ≡ guid_c
     same : cell_at after at ≡ cell_at before at
     same = ap (λ (l : List ℕ). cell_at l at) p ∙ get_or_at (take at before) (cell_at before at) (0 ∷ 0 ∷ drop (at + 3) before) 0 at (length-take-le at before (omega arith))
 
-    pub takes_absent : cell_at before at ≡ 0 → TakesId s (id_cell k) before after no_id.bytes
+    pub takes_absent : cell_at before at ≡ 0 → TakesId s (id_cell k) before after no_bytes
     takes_absent z = so (record { id = λ n. absurd (n z); cells = p ∙ rw f refl; by = rw (f, same, z) refl })
 
     pub takes_there : {r : Bytes} → (cell_at before at ≡ 0 → ⊥) → IdAt s (cell_at before (at + 1)) (cell_at before (at + 2)) r → TakesId s (id_cell k) before after r
@@ -87,6 +87,6 @@ clear_end {raw} c l h e = none_low raw (λ j z. let m = c.least j (omega arith) 
 pub clear_id : {raw r : Bytes} → as_read raw ≡ true → r ≡ raw → IdOf raw r
 clear_id h e = record { says = λ v x g. e ∙ sym ((raw_as_read_iff x).0 h) }
 
-pub read_id : {raw : Bytes} {g : Guid} → IdReads raw g → IdOf raw g.bytes
+pub read_id : {raw : Bytes} {g : Option Bytes} → IdReads raw g → IdOf raw (bytes_in g)
 unfolding id_read
-read_id {raw} {g} h = record { says = λ v x q. ap (λ (g : Guid). g.bytes) (as_read_lem (record { good = loosen x.good; spelt = x.spelt }) h ∙ ap id_read (sym x.reads) ∙ ap (λ (b : Bool). cond b (record { there = true; bytes = v }) no_id) q) }
+read_id {raw} {g} h = record { says = λ v x q. ap bytes_in (as_read_lem (record { good = loosen x.good; spelt = x.spelt }) h ∙ ap id_read (sym x.reads) ∙ ap (λ (b : Bool). cond b (Some v) None) q) }

@@ -1,4 +1,6 @@
 -- The loop over the rows: what is tried with what is left says what all rows say.
+use Rattle.std.specs.Prelude.{Option, Some, None}
+use Rattle.value.specs.declared.text.Span.{Span}
 use mathlib.Core.Path.{◌≡◌, refl, sym, ap, subst, ◌∙◌}
 use mathlib.Core.List.{List, [], ◌∷◌, ◌++◌, append_assoc, append-nil}
 use Prim.Native.Nat.{ℕ, zero, suc, ◌+◌, ◌-◌, ◌*◌, ◌≤◌, ◌<◌}
@@ -13,16 +15,12 @@ use Rattle.refusals.specs.declared.Refusal.{Refusal}
 use Rattle.refusals.specs.declared.Refusal.TheVariants.{Incomplete, Malformed, MessageTooLong, Missing, TextTooLong, BadValue, NoRoom, MayNotBeSent, ProtocolError}
 use Rattle.grammar.specs.Bytes.{Bytes}
 use Rattle.grammar.specs.Tree.{Tree, tree, Forest}
-use Rattle.value.specs.declared.text.Words.{Words}
-use Rattle.value.specs.declared.text.Words.TheVariants.{Absent as NoWords, Present as IsWords}
 use Rattle.table.specs.Table.{Row, rows_of}
 use Rattle.table.specs.Says.{refusal_in, tried, first, refusal_of}
 use Rattle.rows.specs.Coding.{row_of, coded_at, rows_from}
 use Rattle.rows.proofs.CodingLaws.{next_row, no_row, length_rows}
 use Rattle.message.specs.Fields.{Field, none, a_words, a_whole, a_measure, a_guid, a_features}
 use Rattle.message.specs.Cells.{cell_of, cells_of}
-use Rattle.message.specs.declared.values.Whole.TheVariants.{Absent as NoWhole, Present as IsWhole}
-use Rattle.message.specs.declared.values.Measure.TheVariants.{Absent as NoMeasure, Present as IsMeasure}
 use Rattle.reads.specs.Held.{Held, pairs, place}
 use Rattle.reads.specs.Kept.{Verdict, kept_of, tried_by, kept_in, Sorted, Rowed, AllRowed}
 use Rattle.reads.specs.declared.features.Sort.{Sort}
@@ -31,16 +29,18 @@ use Rattle.reads.proofs.TableLaws.{Fed}
 -- a cell is three numbers
 pub three : (x : Field) (l : List ℕ) → cell_of x ++ l ≡ get_or (cell_of x) 0 0 ∷ get_or (cell_of x) 1 0 ∷ get_or (cell_of x) 2 0 ∷ l
 three none l = refl
-three (a_words NoWords) l = refl
-three (a_words (IsWords p)) l = refl
-three (a_whole NoWhole) l = refl
-three (a_whole (IsWhole n)) l = refl
-three (a_measure NoMeasure) l = refl
-three (a_measure (IsMeasure n d)) l = refl
-three (a_guid g) l = refl
-three (a_features f) l = refl
+three (a_words None) l = refl
+three (a_words (Some p)) l = refl
+three (a_whole None) l = refl
+three (a_whole (Some n)) l = refl
+three (a_measure None) l = refl
+three (a_measure (Some d)) l = refl
+three (a_guid None) l = refl
+three (a_guid (Some v)) l = refl
+three (a_features None) l = refl
+three (a_features (Some f)) l = refl
 
-pub next_cell : (r : Row) (l : List Row) (place : Bytes → Words) (t : Tree) → cells_of (kept_in (r ∷ l) place t) ≡ (tried_by r place t).there ∷ (tried_by r place t).a ∷ (tried_by r place t).b ∷ cells_of (kept_in l place t)
+pub next_cell : (r : Row) (l : List Row) (place : Bytes → Option Span) (t : Tree) → cells_of (kept_in (r ∷ l) place t) ≡ (tried_by r place t).there ∷ (tried_by r place t).a ∷ (tried_by r place t).b ∷ cells_of (kept_in l place t)
 unfolding cells_of kept_in
 next_cell r l place t = three (kept_of r.form (place r.name) (tried r t)) (cells_of (kept_in l place t))
 

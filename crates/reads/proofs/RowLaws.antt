@@ -1,4 +1,5 @@
 -- A row tried: what its form keeps.
+use Rattle.std.specs.Prelude.{Option, Some, None}
 use mathlib.Core.Path.{◌≡◌, refl, sym, ap, subst, ◌∙◌}
 use mathlib.Core.List.{List}
 use mathlib.Core.Bool.{Bool, true, false, cond}
@@ -15,8 +16,6 @@ use Rattle.grammar.specs.Value.{Item, read_value}
 use Rattle.grammar.specs.Tree.{Tree, tree}
 use Rattle.value.specs.Loose.{Loose}
 use Rattle.value.specs.declared.text.Span.{Span}
-use Rattle.value.specs.declared.text.Words.{Words}
-use Rattle.value.specs.declared.text.Words.TheVariants.{Absent, Present}
 use Rattle.table.specs.Table.{Form, words, some_words, whole, guid, version, positive, features, Need, required, optional}
 use Rattle.table.specs.Says.{Result, refusal_in, judged, without, given, featured, sought, by_need, tried}
 use Rattle.table.specs.Theorems.{by_flag}
@@ -31,8 +30,8 @@ use Rattle.reads.specs.declared.tried.Cell.{Cell}
 use Rattle.reads.proofs.FieldLaws.{tries_absent, tries_present}
 
 -- the arms of `judged`
-abbrev at : ℕ → Bytes → Words
-at start raw = Present (record { start = start; len = length raw })
+abbrev at : ℕ → Bytes → Option Span
+at start raw = Some (record { start = start; len = length raw })
 
 -- a form whose value is told by its place
 by_place : {raw : Bytes} {start n : ℕ} {p : Cell} (t : Form) → ((x : Result) → kept_of t (at start raw) x ≡ a_words (at start raw)) → Judges refusal_in t raw n → p ≡ cell_as (words_cell (at start raw)) → (l : List Item) → Loose raw l → record { refusal = n; there = p.there; a = p.a; b = p.b } ≡ tried_as t (at start raw) (judged t (read_value l))
@@ -109,7 +108,7 @@ pub tried_given : (t : Form) (n : Bytes) (d : Need) (o : Bool) (x : Tree) → d 
 unfolding tried
 tried_given t n d o x e p = ap (λ (d : Need). by_need d (sought t n x)) e ∙ by_flag o (sought t n x) ∙ sought_given t n o x p
 
-absent_row : (t : Form) (o : Bool) → plain t ≡ true → tried_as t Absent (without o) ≡ lacking o
+absent_row : (t : Form) (o : Bool) → plain t ≡ true → tried_as t None (without o) ≡ lacking o
 unfolding kept_of
 absent_row (words k) o p = refl
 absent_row (some_words k) o p = refl
@@ -137,15 +136,15 @@ module _ {s : Bytes} {base : ℕ} {table : List ℕ} {count : ℕ} (carried : Op
   rowed : {r : Verdict} → Tries (tried_as (form_of c)) (form_of c) (eqb c.need 1) s base table count (name_at c.line c.len) r → Rowed s base table count carried c r
   rowed x = record { says = λ h m f z. x.says h ∙ sym (ap (tried_as (form_of c) (place h (name_at c.line c.len))) (tried_given (form_of c) (name_at c.line c.len) (cond (eqb c.need 1) optional required) (eqb c.need 1) (tree m (pairs h) f) refl (is_plain c other))) }
 
-  named : {n : Bytes} {w : Words} → n ≡ name_at c.line c.len → Found s base table count n w → Found s base table count (name_at c.line c.len) w
+  named : {n : Bytes} {w : Option Span} → n ≡ name_at c.line c.len → Found s base table count n w → Found s base table count (name_at c.line c.len) w
   named {n} {w} q found = subst (λ (n : Bytes). Found s base table count n w) q found
 
-  pub absent_rowed : {r : Verdict} {n : Bytes} {w : Words} → n ≡ name_at c.line c.len → Found s base table count n w → w ≡ Absent → r ≡ lacking (eqb c.need 1) → Rowed s base table count carried c r
-  absent_rowed y found e q = rowed (tries_absent (named y found) (tried_as (form_of c)) (form_of c) (eqb c.need 1) e (q ∙ sym (absent_row (form_of c) (eqb c.need 1) (is_plain c other)) ∙ ap (λ (w : Words). tried_as (form_of c) w (without (eqb c.need 1))) (sym e)))
+  pub absent_rowed : {r : Verdict} {n : Bytes} {w : Option Span} → n ≡ name_at c.line c.len → Found s base table count n w → w ≡ None → r ≡ lacking (eqb c.need 1) → Rowed s base table count carried c r
+  absent_rowed y found e q = rowed (tries_absent (named y found) (tried_as (form_of c)) (form_of c) (eqb c.need 1) e (q ∙ sym (absent_row (form_of c) (eqb c.need 1) (is_plain c other)) ∙ ap (λ (w : Option Span). tried_as (form_of c) w (without (eqb c.need 1))) (sym e)))
 
-  pub present_rowed : {r : Verdict} {n : Bytes} {w : Words} → n ≡ name_at c.line c.len → Found s base table count n w → (p : Span) → p.start + p.len ≤ length s → w ≡ Present p
+  pub present_rowed : {r : Verdict} {n : Bytes} {w : Option Span} → n ≡ name_at c.line c.len → Found s base table count n w → (p : Span) → p.start + p.len ≤ length s → w ≡ Some p
       → RowJudges c.form c.low c.high (take (p.start + p.len - p.start) (drop p.start s)) p.start r → Rowed s base table count carried c r
-  present_rowed y found p z e j = rowed (tries_present (named y found) (tried_as (form_of c)) (form_of c) (eqb c.need 1) p e (λ l x. j.says l x ∙ sym (ap (λ (t : Form). tried_as t (at p.start (take (p.start + p.len - p.start) (drop p.start s))) (judged t (read_value l))) (is_attribute c other)) ∙ ap (λ (n : ℕ). tried_as (form_of c) (Present (record { start = p.start; len = n })) (judged (form_of c) (read_value l))) long))
+  present_rowed y found p z e j = rowed (tries_present (named y found) (tried_as (form_of c)) (form_of c) (eqb c.need 1) p e (λ l x. j.says l x ∙ sym (ap (λ (t : Form). tried_as t (at p.start (take (p.start + p.len - p.start) (drop p.start s))) (judged t (read_value l))) (is_attribute c other)) ∙ ap (λ (n : ℕ). tried_as (form_of c) (Some (record { start = p.start; len = n })) (judged (form_of c) (read_value l))) long))
     where
       long : length (take (p.start + p.len - p.start) (drop p.start s)) ≡ p.len
       long =

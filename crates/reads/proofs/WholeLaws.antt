@@ -1,4 +1,6 @@
 -- From an outline to the cells of the one reading.
+use Rattle.std.specs.Prelude.{Option}
+use Rattle.value.specs.declared.text.Span.{Span}
 use mathlib.Core.Path.{◌≡◌, refl, sym, ap, ◌∙◌}
 use mathlib.Core.List.{List, ◌++◌}
 use Prim.Native.Nat.{ℕ, ◌-◌, ◌*◌}
@@ -11,7 +13,6 @@ use Rattle.grammar.specs.Places.{tag_in}
 use Rattle.reader.specs.Answer.{Accepted, Outlined}
 use Rattle.reader.specs.declared.answer.Answer.TheVariants.{Ends, More, Malformed, TooLong}
 use Rattle.reader.specs.declared.answer.Outline.{Outline}
-use Rattle.value.specs.declared.text.Words.{Words}
 use Rattle.table.specs.Table.{Row, kind_of, rows_of}
 use Rattle.table.specs.Theorems.{rows_table}
 use Rattle.table.specs.Says.{refusal_of, child_of, children_of, name_of, said_of}
@@ -27,7 +28,7 @@ use Rattle.message.proofs.HandedLaws.{read_inner, tree_of, name_of_lem}
 
 module _ {s : Bytes} {start end from to count inside : ℕ} {old new : List ℕ} (a : Accepted s start end from to count inside old new) (whole : length old ≡ 128) where
   -- what holds of the element that the table describes holds of the reading's
-  pub as_read_lem : {X : Type 0} (F : ℕ → (Bytes → Words) → Tree → X) → F (kind_of (take (to - from) (drop from s))) (place (accepted_held a whole)) (tree (take (to - from) (drop from s)) (pairs (accepted_held a whole)) (children_of (read_element (child a)))) ≡ F (said_of (read_layout a.layout)).kind (places_in start a.layout) (child_of (read_layout a.layout))
+  pub as_read_lem : {X : Type 0} (F : ℕ → (Bytes → Option Span) → Tree → X) → F (kind_of (take (to - from) (drop from s))) (place (accepted_held a whole)) (tree (take (to - from) (drop from s)) (pairs (accepted_held a whole)) (children_of (read_element (child a)))) ≡ F (said_of (read_layout a.layout)).kind (places_in start a.layout) (child_of (read_layout a.layout))
   unfolding place_of accepted_held
   as_read_lem F =
       ap (λ (n : Bytes). F (kind_of n) (place_of to (tag_in (child a)).attributes) (tree n (read_attributes (tag_in (child a)).attributes) (children_of (read_element (child a))))) (parts a).name

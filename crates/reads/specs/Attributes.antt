@@ -1,7 +1,7 @@
 -- What holds of an element whose attributes a table describes.
 use Rattle.std.specs.Prelude.{List, Bool, ℕ, Option}
 use Rattle.grammar.specs.Bytes.{Bytes}
-use Rattle.value.specs.declared.text.Words.{Words}
+use Rattle.value.specs.declared.text.Span.{Span}
 use Rattle.rows.specs.declared.data.Row.{Row as Coded}
 use Rattle.reads.specs.Held.{Held, Called, Lies, Found}
 use Rattle.reads.specs.Kept.{Verdict, Rowed, AllRowed}
@@ -14,10 +14,10 @@ HeldIn a = Held a.message.now a.base a.table.now a.count
 abbrev pub CalledIn : Attributes → ℕ → Bytes → Bool → Type 0
 CalledIn a i name r = Called a.message.now a.base a.table.now i name r
 
-abbrev pub LiesIn : Attributes → ℕ → Words → Type 0
+abbrev pub LiesIn : Attributes → ℕ → Option Span → Type 0
 LiesIn a i r = Lies a.base a.table.now i r
 
-abbrev pub FoundIn : Attributes → Bytes → Words → Type 0
+abbrev pub FoundIn : Attributes → Bytes → Option Span → Type 0
 FoundIn a name r = Found a.message.now a.base a.table.now a.count name r
 
 abbrev pub RowedIn : Attributes → Option ℕ → Coded → Verdict → Type 0

@@ -1,12 +1,11 @@
 -- The attributes of an element, whose places a table holds.
-use Rattle.std.specs.Prelude.{◌≡◌, List, [], ◌++◌, Bool, true, ℕ, ◌+◌, ◌-◌, ◌*◌, length, take, drop, get_or}
+use Rattle.value.specs.declared.text.Span.{Span}
+use Rattle.std.specs.Prelude.{◌≡◌, List, [], ◌++◌, Bool, true, ℕ, ◌+◌, ◌-◌, ◌*◌, length, take, drop, get_or, Option, Some}
 use Rattle.grammar.specs.Bytes.{Bytes, same}
 use Rattle.grammar.specs.Attribute.{Attribute, spell_attributes, GoodEach, fresh}
 use Rattle.grammar.specs.Tree.{Pair}
 use Rattle.grammar.specs.Element.{read_attributes}
 use Rattle.tags.specs.Places.{places}
-use Rattle.value.specs.declared.text.Words.{Words}
-use Rattle.value.specs.declared.text.Words.TheVariants.{Present}
 use Rattle.table.specs.Table.{Form}
 use Rattle.table.specs.Says.{Result, given}
 use Rattle.message.specs.Checked.{place_of}
@@ -26,19 +25,19 @@ pub record Held (s : Bytes) (base : ℕ) (table : List ℕ) (count : ℕ) : Type
 abbrev pub pairs : {s : Bytes} {base : ℕ} {table : List ℕ} {count : ℕ} → Held s base table count → List Pair
 pairs h = read_attributes h.attributes
 
-abbrev pub place : {s : Bytes} {base : ℕ} {table : List ℕ} {count : ℕ} → Held s base table count → Bytes → Words
+abbrev pub place : {s : Bytes} {base : ℕ} {table : List ℕ} {count : ℕ} → Held s base table count → Bytes → Option Span
 place {base = base} h = place_of base h.attributes
 
-pub record Found (s : Bytes) (base : ℕ) (table : List ℕ) (count : ℕ) (name : Bytes) (r : Words) : Type 0 where
+pub record Found (s : Bytes) (base : ℕ) (table : List ℕ) (count : ℕ) (name : Bytes) (r : Option Span) : Type 0 where
   pub says : (h : Held s base table count) → r ≡ place h name
 
 -- whether the attribute i has that name, and where its raw value stands
 abbrev pub Called : Bytes → ℕ → List ℕ → ℕ → Bytes → Bool → Type 0
 Called s base table i name r = r ≡ same name (take (base + get_or table (4 * i + 1) 0 - (base + get_or table (4 * i) 0)) (drop (base + get_or table (4 * i) 0) s))
 
-abbrev pub Lies : ℕ → List ℕ → ℕ → Words → Type 0
-Lies base table i r = r ≡ Present (record { start = base + get_or table (4 * i + 2) 0; len = base + get_or table (4 * i + 3) 0 - (base + get_or table (4 * i + 2) 0) })
+abbrev pub Lies : ℕ → List ℕ → ℕ → Option Span → Type 0
+Lies base table i r = r ≡ Some (record { start = base + get_or table (4 * i + 2) 0; len = base + get_or table (4 * i + 3) 0 - (base + get_or table (4 * i + 2) 0) })
 
 -- f of what the attribute of a name is worth by the form t, and of its place
-pub record Tries {A : Type 0} (f : Words → Result → A) (t : Form) (optional : Bool) (s : Bytes) (base : ℕ) (table : List ℕ) (count : ℕ) (name : Bytes) (r : A) : Type 0 where
+pub record Tries {A : Type 0} (f : Option Span → Result → A) (t : Form) (optional : Bool) (s : Bytes) (base : ℕ) (table : List ℕ) (count : ℕ) (name : Bytes) (r : A) : Type 0 where
   pub says : (h : Held s base table count) → r ≡ f (place h name) (given t optional name (pairs h))

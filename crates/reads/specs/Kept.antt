@@ -1,15 +1,13 @@
 -- What is kept of a row: its refusal and a cell of three numbers; and of all rows of a kind. The cells are those of message's Cells, but for that of a
 -- GUID, which has the place and the length of its raw value.
-use Rattle.std.specs.Prelude.{◌≡◌, List, [], ◌∷◌, ◌++◌, Bool, ℕ, ◌-◌, ◌*◌, length, take, drop, get_or, Option, None, Some, Ok, Err}
-use Rattle.std.specs.Prelude.{Result as Answer}
+use Rattle.std.specs.Prelude.{◌≡◌, List, [], ◌∷◌, ◌++◌, Bool, ℕ, ◌-◌, ◌*◌, length, take, drop, get_or, Option, None, Some, Ok, Err, Result as Answer, cond, eqb}
 use Rattle.refusals.specs.Numbers.{number_of, told}
 use Rattle.refusals.specs.declared.Refusal.{Refusal}
+use Rattle.value.specs.declared.text.Span.{Span}
 use Rattle.grammar.specs.Bytes.{Bytes, text}
 use Rattle.grammar.specs.Value.{Item, read_value}
 use Rattle.grammar.specs.Tree.{Tree, tree, Forest}
 use Rattle.value.specs.Loose.{Loose}
-use Rattle.value.specs.declared.text.Words.{Words}
-use Rattle.value.specs.declared.text.Words.TheVariants.{Present}
 use Rattle.table.specs.Table.{Row, Form, words, some_words, whole, guid, version, positive, features, kind_of, rows_of}
 use Rattle.table.specs.Says.{Result, present, without, refusal_in, judged, notes, featured, tried, refusal_of}
 use Rattle.lane.specs.Names.{ServiceDescription}
@@ -60,7 +58,7 @@ abbrev pub features_of : Result → Verdict
 features_of x = as_cell (refusal_in x) (features_cell (features_in x))
 
 -- the field of a row whose raw value stands at w; of a GUID, where its raw value stands
-unfoldable pub kept_of : Form → Words → Result → Field
+unfoldable pub kept_of : Form → Option Span → Result → Field
 kept_of (words n) w x = a_words w
 kept_of (some_words n) w x = a_words w
 kept_of (whole lo hi) w x = a_whole (whole_in x)
@@ -69,14 +67,14 @@ kept_of version w x = a_words w
 kept_of positive w x = a_measure (measure_in x)
 kept_of features w x = a_features (features_in x)
 
-abbrev pub tried_as : Form → Words → Result → Verdict
+abbrev pub tried_as : Form → Option Span → Result → Verdict
 tried_as t w x = as_cell (refusal_in x) (cell_of (kept_of t w x))
 
-abbrev pub tried_by : Row → (Bytes → Words) → Tree → Verdict
+abbrev pub tried_by : Row → (Bytes → Option Span) → Tree → Verdict
 tried_by r place t = tried_as r.form (place r.name) (tried r t)
 
 -- in table order
-unfoldable pub kept_in : List Row → (Bytes → Words) → Tree → List Field
+unfoldable pub kept_in : List Row → (Bytes → Option Span) → Tree → List Field
 kept_in [] place t = []
 kept_in (r ∷ l) place t = kept_of r.form (place r.name) (tried r t) ∷ kept_in l place t
 
@@ -86,7 +84,7 @@ pub record Judges {A : Type 0} (f : Result → A) (t : Form) (raw : Bytes) (r : 
 
 -- by the form of a row of the code
 pub record RowJudges (k lo hi : ℕ) (raw : Bytes) (start : ℕ) (r : Verdict) : Type 0 where
-  pub says : (l : List Item) → Loose raw l → r ≡ tried_as (attribute_form k lo hi) (Present (record { start = start; len = length raw })) (judged (attribute_form k lo hi) (read_value l))
+  pub says : (l : List Item) → Loose raw l → r ≡ tried_as (attribute_form k lo hi) (Some (record { start = start; len = length raw })) (judged (attribute_form k lo hi) (read_value l))
 
 -- the features that stand in an element's content
 pub record NotesIn (s : Bytes) (inside : ℕ) (r : ℕ) : Type 0 where

@@ -2,7 +2,7 @@
 ghost use Rattle.reads.specs.Held.{Held};
 
 use rows::same::same;
-use value::{Span, Words};
+use value::Span;
 
 /// The attributes of an element of a message. The table has four places for each, counted from `base`: from where to where its name stands, and its raw
 /// value.
@@ -30,20 +30,20 @@ impl<'a> Attributes<'a> {
     }
 
     // Where the raw value of the attribute i stands.
-    fn value(&self, i: usize) -> Words
+    fn value(&self, i: usize) -> Option<Span>
         requires { i < self.now.count }
         ensures { LiesIn self.now i result }
     {
         let start = self.base + self.table[4 * i + 2] as usize;
         let end = self.base + self.table[4 * i + 3] as usize;
-        Words::Present(Span {
+        Some(Span {
             start,
             len: end - start,
         })
     }
 
     // The same as find, from the first attribute on.
-    fn search(&self, name: &[u8]) -> Words
+    fn search(&self, name: &[u8]) -> Option<Span>
         ensures { FoundIn self.now name.now result }
     {
         for i in 0..self.count {
@@ -51,12 +51,12 @@ impl<'a> Attributes<'a> {
                 return self.value(i);
             }
         }
-        Words::Absent
+        None
     }
 
     /// Where the raw value of the attribute of that name stands. The attribute `guess` is looked at first: most tags have their attributes in the order of
     /// the rows.
-    pub fn find(&self, guess: usize, name: &[u8]) -> Words
+    pub fn find(&self, guess: usize, name: &[u8]) -> Option<Span>
         ensures { FoundIn self.now name.now result }
     {
         if guess < self.count && self.is_named(guess, name) {

@@ -31,8 +31,7 @@ fn id_of(raw: &[u8]) -> [u8; 36]
     if is_clear(raw) {
         return copied(raw);
     }
-    let g = decodes::id_at(raw);
-    g.bytes
+    decodes::id_at(raw).unwrap_or([0u8; 36])
 }
 
 // The id that stands there; zeros if that is outside.

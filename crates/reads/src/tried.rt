@@ -1,7 +1,6 @@
 // What a row says.
 ghost use Rattle.std.specs.Prelude.{◌≡◌, [], ◌∷◌, Some, eqb};
 ghost use Rattle.message.specs.Cells.{words_cell};
-ghost use Rattle.value.specs.declared.text.Words.TheVariants.{Present};
 ghost use Rattle.reads.specs.Kept.{cell_as, lacking, carried_by, verdict_in, verdict_of};
 
 use refusals::Refusal;
@@ -39,7 +38,7 @@ impl Cell {
 
     /// Of a value that is told by its place.
     pub fn place(start: usize, len: usize) -> Cell
-        ensures { result ≡ cell_as (words_cell (Present (record { start = start; len = len }))) }
+        ensures { result ≡ cell_as (words_cell (Some (record { start = start; len = len }))) }
     {
         Cell {
             there: 1,

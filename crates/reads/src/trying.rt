@@ -8,7 +8,6 @@ use crate::attributes::Attributes;
 use crate::judge::judged;
 use crate::tried::{Tried, carried, missing};
 use rows::data::{Row, name_at};
-use value::Words;
 
 /// A row tried: its attribute, for which the attribute `guess` is looked at first; or its child, which was looked for before.
 pub fn try_row(
@@ -25,7 +24,7 @@ pub fn try_row(
         return Tried::from(carried(features, row.need));
     }
     let name = name_at(names, row.line as usize, row.len as usize);
-    let Words::Present(place) = attributes.find(guess, name) else {
+    let Some(place) = attributes.find(guess, name) else {
         return Tried::from(missing(row.need));
     };
     let raw = &attributes.message[place.start..place.start + place.len];

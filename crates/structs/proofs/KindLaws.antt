@@ -6,39 +6,14 @@ use Prim.Native.Nat.{ℕ, ◌+◌, ◌*◌, ◌/◌}
 use lib.Dec.{eqb}
 use borrow.Author.Tests.{eqb-true}
 use Rattle.grammar.specs.Bytes.{Bytes}
-use Rattle.value.specs.Ids.{no_id}
 use Rattle.table.specs.Table.{Row, Form, words, some_words, whole, guid, version, positive, features, rows_of}
-use Rattle.message.specs.Fields.{Field, a_guid, a_features, no_features, bare, bares}
+use Rattle.message.specs.Fields.{Field}
 use Rattle.message.specs.Cells.{is_there, bit, field_by, guid_by, features_by, cell_at, fields_from}
 use Rattle.message.specs.Messages.{message_from, fields_of}
 use Rattle.message.specs.declared.cells.Message.{Message}
 use Rattle.message.proofs.BackLaws.{sorts_of, sorts_in, made_back, fits_kind, sorts_kind}
 use Rattle.structs.specs.Celled.{zeros}
 use Rattle.structs.specs.OfKind.{only, of_kind}
-
--- what cells are is bare
-bare_by : (F : Form) (t a b : ℕ) (id : Bytes) → bare (field_by F t a b id) ≡ field_by F t a b id
-unfolding field_by guid_by features_by
-bare_by (words n) t a b id = refl
-bare_by (some_words n) t a b id = refl
-bare_by (whole lo hi) t a b id = refl
-bare_by guid t a b id = go (is_there t)
-  where
-    go : (z : Bool) → a_guid (cond (cond z (record { there = true; bytes = id }) no_id).there (cond z (record { there = true; bytes = id }) no_id) no_id) ≡ a_guid (cond z (record { there = true; bytes = id }) no_id)
-    go true = refl
-    go false = refl
-bare_by version t a b id = refl
-bare_by positive t a b id = refl
-bare_by features t a b id = go (is_there t) (bit a) (bit (a / 2)) (bit (a / 4))
-  where
-    go : (z x y w : Bool) → a_features (cond z (record { there = z; forecast = z && x; query = z && y; send = z && w }) no_features) ≡ a_features (record { there = z; forecast = z && x; query = z && y; send = z && w })
-    go true x y w = refl
-    go false x y w = refl
-
-bares_from : (rows : List Row) (i : ℕ) (c : List ℕ) (id : Bytes) → bares (fields_from rows i c id) ≡ fields_from rows i c id
-unfolding fields_from
-bares_from [] i c id = refl
-bares_from (r ∷ rows) i c id = rw (bare_by r.form (cell_at c (3 * i)) (cell_at c (3 * i + 1)) (cell_at c (3 * i + 2)) id, bares_from rows (i + 1) c id)
 
 -- made of the cells of a message of the kind k
 pub of_rows : {A : Type 0} (from : List Field → A) (k : ℕ) (m : Message) → m.kind ≡ k → from (fields_from (rows_of k) 0 m.cells m.id) ≡ from (fields_of m)
@@ -65,7 +40,7 @@ pub record Shape {A : Type 0} (k : ℕ) (from : List Field → A) (fields : A �
 
 module _ {A : Type 0} {k : ℕ} {from : List Field → A} {fields : A → List Field} (s : Shape k from fields) where
   -- the fields of the message that is laid from a struct
-  pub laid_fields : (v : A) → fields_of (message_from k (fields v)) ≡ bares (fields v)
+  pub laid_fields : (v : A) → fields_of (message_from k (fields v)) ≡ fields v
   laid_fields v = made_back k (fields v) (fits_kind k (fields v) (s.sorts v))
 
   -- a message made a struct and laid from it again
@@ -77,7 +52,6 @@ module _ {A : Type 0} {k : ℕ} {from : List Field → A} {fields : A → List F
       ∙ ap (λ (l : List Field). fields_of (message_from k l)) same
       ∙ ap (λ (j : ℕ). fields_of (message_from j (fields_of m))) (sym e)
       ∙ made_back m.kind (fields_of m) (fits_kind m.kind (fields_of m) (sorts_kind m))
-      ∙ bares_from (rows_of m.kind) 0 m.cells m.id
     where
       own : fields_of m ≡ fields_from (rows_of k) 0 m.cells m.id
       own = ap (λ (j : ℕ). fields_from (rows_of j) 0 m.cells m.id) e

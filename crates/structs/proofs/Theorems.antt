@@ -6,7 +6,7 @@ use Prim.Native.Nat.{ℕ}
 use lib.Dec.{eqb}
 use Rattle.lane.specs.Names.{ServiceDescription, Notification, BoardAvailable, MachineReady, StartTransport, StopTransport, TransportFinished, CheckAlive, BoardForecast}
 use Rattle.table.specs.Table.{table}
-use Rattle.message.specs.Fields.{Field, bares}
+use Rattle.message.specs.Fields.{Field}
 use Rattle.message.specs.Cells.{field_by, fields_from}
 use Rattle.message.specs.Messages.{message_from, fields_of}
 use Rattle.message.specs.declared.cells.Message.{Message}
@@ -34,17 +34,16 @@ use Rattle.structs.proofs.KindLaws.{Shape, laid_fields, message_back}
 pub made_only : {A : Type 0} {x r r' : A} → r ≡ x → r' ≡ x → r ≡ r'
 made_only p q = p ∙ sym q
 
--- `kept`: the struct of the message that is laid from a struct is that struct. One that has an id or features has the same fields, but what is not there
--- is bare: an absent id has no bytes, absent features have no bits.
+-- `kept`: the struct of the message that is laid from a struct is that struct.
 -- `back`: the message that is laid from the struct of a message has the same fields.
 
 service : Shape ServiceDescription service_from service_fields
 unfolding table fields_from field_by service_from service_fields
 service = record { sorts = λ v. refl; same = λ c id. refl }
 
-pub service_kept : (s : Service) → service_fields (service_in (message_from ServiceDescription (service_fields s))) ≡ bares (service_fields s)
+pub service_kept : (s : Service) → service_in (message_from ServiceDescription (service_fields s)) ≡ s
 unfolding message_from service_from service_fields
-service_kept s = ap (λ (l : List Field). service_fields (service_from l)) (laid_fields service s)
+service_kept s = ap service_from (laid_fields service s)
 
 pub service_back : (m : Message) → m.kind ≡ ServiceDescription → fields_of (message_from ServiceDescription (service_fields (service_in m))) ≡ fields_of m
 service_back m e = message_back service m e (ap (λ (k : ℕ). only (eqb k ServiceDescription) m) e)
@@ -64,9 +63,9 @@ board : Shape BoardAvailable board_from board_fields
 unfolding table fields_from field_by board_from board_fields part_from part_fields
 board = record { sorts = λ v. refl; same = λ c id. refl }
 
-pub board_kept : (b : Available) → board_fields (board_in (message_from BoardAvailable (board_fields b))) ≡ bares (board_fields b)
+pub board_kept : (b : Available) → board_in (message_from BoardAvailable (board_fields b)) ≡ b
 unfolding message_from board_from board_fields part_from part_fields
-board_kept b = ap (λ (l : List Field). board_fields (board_from l)) (laid_fields board b)
+board_kept b = ap board_from (laid_fields board b)
 
 pub board_back : (m : Message) → m.kind ≡ BoardAvailable → fields_of (message_from BoardAvailable (board_fields (board_in m))) ≡ fields_of m
 board_back m e = message_back board m e (ap (λ (k : ℕ). only (eqb k BoardAvailable) m) e)
@@ -86,9 +85,9 @@ start : Shape StartTransport start_from start_fields
 unfolding table fields_from field_by start_from start_fields
 start = record { sorts = λ v. refl; same = λ c id. refl }
 
-pub start_kept : (s : Start) → start_fields (start_in (message_from StartTransport (start_fields s))) ≡ bares (start_fields s)
+pub start_kept : (s : Start) → start_in (message_from StartTransport (start_fields s)) ≡ s
 unfolding message_from start_from start_fields
-start_kept s = ap (λ (l : List Field). start_fields (start_from l)) (laid_fields start s)
+start_kept s = ap start_from (laid_fields start s)
 
 pub start_back : (m : Message) → m.kind ≡ StartTransport → fields_of (message_from StartTransport (start_fields (start_in m))) ≡ fields_of m
 start_back m e = message_back start m e (ap (λ (k : ℕ). only (eqb k StartTransport) m) e)
@@ -97,9 +96,9 @@ stop : Shape StopTransport transfer_from transfer_fields
 unfolding table fields_from field_by transfer_from transfer_fields
 stop = record { sorts = λ v. refl; same = λ c id. refl }
 
-pub stop_kept : (t : Transfer) → transfer_fields (transfer_in (message_from StopTransport (transfer_fields t))) ≡ bares (transfer_fields t)
+pub stop_kept : (t : Transfer) → transfer_in (message_from StopTransport (transfer_fields t)) ≡ t
 unfolding message_from transfer_from transfer_fields
-stop_kept t = ap (λ (l : List Field). transfer_fields (transfer_from l)) (laid_fields stop t)
+stop_kept t = ap transfer_from (laid_fields stop t)
 
 pub stop_back : (m : Message) → m.kind ≡ StopTransport → fields_of (message_from StopTransport (transfer_fields (transfer_in m))) ≡ fields_of m
 stop_back m e = message_back stop m e (ap (λ (k : ℕ). only (eqb k StopTransport || eqb k TransportFinished) m) e)
@@ -108,9 +107,9 @@ finished : Shape TransportFinished transfer_from transfer_fields
 unfolding table fields_from field_by transfer_from transfer_fields
 finished = record { sorts = λ v. refl; same = λ c id. refl }
 
-pub finished_kept : (t : Transfer) → transfer_fields (transfer_in (message_from TransportFinished (transfer_fields t))) ≡ bares (transfer_fields t)
+pub finished_kept : (t : Transfer) → transfer_in (message_from TransportFinished (transfer_fields t)) ≡ t
 unfolding message_from transfer_from transfer_fields
-finished_kept t = ap (λ (l : List Field). transfer_fields (transfer_from l)) (laid_fields finished t)
+finished_kept t = ap transfer_from (laid_fields finished t)
 
 pub finished_back : (m : Message) → m.kind ≡ TransportFinished → fields_of (message_from TransportFinished (transfer_fields (transfer_in m))) ≡ fields_of m
 finished_back m e = message_back finished m e (ap (λ (k : ℕ). only (eqb k StopTransport || eqb k TransportFinished) m) e)
@@ -130,9 +129,9 @@ forecast : Shape BoardForecast forecast_from forecast_fields
 unfolding table fields_from field_by forecast_from forecast_fields part_from part_fields
 forecast = record { sorts = λ v. refl; same = λ c id. refl }
 
-pub forecast_kept : (b : Forecast) → forecast_fields (forecast_in (message_from BoardForecast (forecast_fields b))) ≡ bares (forecast_fields b)
+pub forecast_kept : (b : Forecast) → forecast_in (message_from BoardForecast (forecast_fields b)) ≡ b
 unfolding message_from forecast_from forecast_fields part_from part_fields
-forecast_kept b = ap (λ (l : List Field). forecast_fields (forecast_from l)) (laid_fields forecast b)
+forecast_kept b = ap forecast_from (laid_fields forecast b)
 
 pub forecast_back : (m : Message) → m.kind ≡ BoardForecast → fields_of (message_from BoardForecast (forecast_fields (forecast_in m))) ≡ fields_of m
 forecast_back m e = message_back forecast m e (ap (λ (k : ℕ). only (eqb k BoardForecast) m) e)

@@ -1,6 +1,7 @@
 -- What a struct is made of; a cell as the code has it; then the kinds.
 pub mod OfKind
 pub mod Celled
+pub mod Held
 pub mod BoardPart
 pub mod Services
 pub mod Notices

@@ -4,19 +4,18 @@ ghost use Rattle.lane.specs.Names as kinds;
 ghost use Rattle.message.specs.Messages.{message_from};
 ghost use Rattle.structs.specs.Alive.{alive_in, alive_fields};
 
-use crate::laying::{put_whole, put_words};
-use crate::making::{cells_if, whole, words};
+use crate::laying::put;
+use crate::making::{at, cells_if};
 use lane::Kind;
 use message::Message;
 use message::cells::NUMBERS;
-use message::values::Whole;
-use value::Words;
+use value::Span;
 
 /// The attributes of a CheckAlive, in table order.
 #[derive(Clone, Copy)]
 pub struct CheckAlive {
-    pub ping: Whole,
-    pub id: Words,
+    pub ping: Option<u64>,
+    pub id: Option<Span>,
 }
 
 /// What a CheckAlive says; of a message of another kind all is absent.
@@ -26,8 +25,8 @@ pub fn check_alive(m: Message) -> CheckAlive
     let kind = m.kind;
     let cells = cells_if(kind == Kind::CHECK_ALIVE, m);
     CheckAlive {
-        ping: whole(cells, 0),
-        id: words(cells, 1),
+        ping: at(cells, 0),
+        id: at(cells, 1),
     }
 }
 
@@ -37,8 +36,8 @@ pub fn of_check_alive(v: CheckAlive) -> Message
 {
     let ping = v.ping;
     let id = v.id;
-    let cells = put_whole([0u64; NUMBERS], 0, ping);
-    let cells = put_words(cells, 1, id);
+    let cells = put([0u64; NUMBERS], 0, ping);
+    let cells = put(cells, 1, id);
     Message {
         kind: Kind::CHECK_ALIVE,
         cells: cells,

@@ -3,28 +3,28 @@ ghost use Rattle.std.specs.Prelude.{◌≡◌, ◌≤◌};
 ghost use Rattle.structs.specs.BoardPart.{part_at, part_fields};
 ghost use Rattle.structs.specs.Celled.{all_laid};
 
-use crate::laying::{put_measure, put_whole, put_words};
-use crate::making::{measure, whole, words};
+use crate::laying::put;
+use crate::making::at;
 use message::cells::NUMBERS;
-use message::values::{Measure, Whole};
-use value::Words;
+use message::values::Decimal;
+use value::Span;
 
 /// A board's attributes, in table order.
 #[derive(Clone, Copy)]
 pub struct Board {
-    pub failed: Whole,
-    pub product: Words,
-    pub flipped: Whole,
-    pub top: Words,
-    pub bottom: Words,
-    pub length: Measure,
-    pub width: Measure,
-    pub thickness: Measure,
-    pub speed: Measure,
-    pub above: Measure,
-    pub below: Measure,
-    pub weight: Measure,
-    pub order: Words,
+    pub failed: Option<u64>,
+    pub product: Option<Span>,
+    pub flipped: Option<u64>,
+    pub top: Option<Span>,
+    pub bottom: Option<Span>,
+    pub length: Option<Decimal>,
+    pub width: Option<Decimal>,
+    pub thickness: Option<Decimal>,
+    pub speed: Option<Decimal>,
+    pub above: Option<Decimal>,
+    pub below: Option<Decimal>,
+    pub weight: Option<Decimal>,
+    pub order: Option<Span>,
 }
 
 /// What the cells from the i-th on say of the board.
@@ -33,19 +33,19 @@ pub fn board_at(cells: [u64; NUMBERS], i: usize) -> Board
     ensures { result ≡ part_at cells i }
 {
     Board {
-        failed: whole(cells, i),
-        product: words(cells, i + 1),
-        flipped: whole(cells, i + 2),
-        top: words(cells, i + 3),
-        bottom: words(cells, i + 4),
-        length: measure(cells, i + 5),
-        width: measure(cells, i + 6),
-        thickness: measure(cells, i + 7),
-        speed: measure(cells, i + 8),
-        above: measure(cells, i + 9),
-        below: measure(cells, i + 10),
-        weight: measure(cells, i + 11),
-        order: words(cells, i + 12),
+        failed: at(cells, i),
+        product: at(cells, i + 1),
+        flipped: at(cells, i + 2),
+        top: at(cells, i + 3),
+        bottom: at(cells, i + 4),
+        length: at(cells, i + 5),
+        width: at(cells, i + 6),
+        thickness: at(cells, i + 7),
+        speed: at(cells, i + 8),
+        above: at(cells, i + 9),
+        below: at(cells, i + 10),
+        weight: at(cells, i + 11),
+        order: at(cells, i + 12),
     }
 }
 
@@ -67,17 +67,17 @@ pub fn put_board(cells: [u64; NUMBERS], i: usize, b: Board) -> [u64; NUMBERS]
     let below = b.below;
     let weight = b.weight;
     let order = b.order;
-    let cells = put_whole(cells, i, failed);
-    let cells = put_words(cells, i + 1, product);
-    let cells = put_whole(cells, i + 2, flipped);
-    let cells = put_words(cells, i + 3, top);
-    let cells = put_words(cells, i + 4, bottom);
-    let cells = put_measure(cells, i + 5, length);
-    let cells = put_measure(cells, i + 6, width);
-    let cells = put_measure(cells, i + 7, thickness);
-    let cells = put_measure(cells, i + 8, speed);
-    let cells = put_measure(cells, i + 9, above);
-    let cells = put_measure(cells, i + 10, below);
-    let cells = put_measure(cells, i + 11, weight);
-    put_words(cells, i + 12, order)
+    let cells = put(cells, i, failed);
+    let cells = put(cells, i + 1, product);
+    let cells = put(cells, i + 2, flipped);
+    let cells = put(cells, i + 3, top);
+    let cells = put(cells, i + 4, bottom);
+    let cells = put(cells, i + 5, length);
+    let cells = put(cells, i + 6, width);
+    let cells = put(cells, i + 7, thickness);
+    let cells = put(cells, i + 8, speed);
+    let cells = put(cells, i + 9, above);
+    let cells = put(cells, i + 10, below);
+    let cells = put(cells, i + 11, weight);
+    put(cells, i + 12, order)
 }

@@ -5,22 +5,21 @@ ghost use Rattle.message.specs.Messages.{message_from};
 ghost use Rattle.structs.specs.Boards.{board_in, board_fields};
 
 use crate::board_part::{Board, board_at, put_board};
-use crate::laying::{bytes_in, put_guid, put_whole, put_words};
-use crate::making::{cells_if, guid, whole, words};
+use crate::laying::{bytes_in, put, put_id};
+use crate::making::{at, cells_if, id_at};
 use lane::Kind;
 use message::Message;
 use message::cells::NUMBERS;
-use message::values::Whole;
-use value::{Guid, Words};
+use value::Span;
 
 /// The attributes of a BoardAvailable, in table order.
 #[derive(Clone, Copy)]
 pub struct BoardAvailable {
-    pub id: Guid,
-    pub by: Words,
+    pub id: Option<[u8; 36]>,
+    pub by: Option<Span>,
     pub board: Board,
-    pub route: Whole,
-    pub batch: Words,
+    pub route: Option<u64>,
+    pub batch: Option<Span>,
 }
 
 /// What a BoardAvailable says; of a message of another kind all is absent.
@@ -31,11 +30,11 @@ pub fn board_available(m: Message) -> BoardAvailable
     let id = m.id;
     let cells = cells_if(kind == Kind::BOARD_AVAILABLE, m);
     BoardAvailable {
-        id: guid(cells, 0, id),
-        by: words(cells, 1),
+        id: id_at(cells, 0, id),
+        by: at(cells, 1),
         board: board_at(cells, 2),
-        route: whole(cells, 15),
-        batch: words(cells, 16),
+        route: at(cells, 15),
+        batch: at(cells, 16),
     }
 }
 
@@ -48,11 +47,11 @@ pub fn of_board_available(v: BoardAvailable) -> Message
     let board = v.board;
     let route = v.route;
     let batch = v.batch;
-    let cells = put_guid([0u64; NUMBERS], 0, id);
-    let cells = put_words(cells, 1, by);
+    let cells = put_id([0u64; NUMBERS], 0, id);
+    let cells = put(cells, 1, by);
     let cells = put_board(cells, 2, board);
-    let cells = put_whole(cells, 15, route);
-    let cells = put_words(cells, 16, batch);
+    let cells = put(cells, 15, route);
+    let cells = put(cells, 16, batch);
     Message {
         kind: Kind::BOARD_AVAILABLE,
         cells: cells,

@@ -5,21 +5,21 @@ ghost use Rattle.message.specs.Messages.{message_from};
 ghost use Rattle.structs.specs.Forecasts.{forecast_in, forecast_fields};
 
 use crate::board_part::{Board, board_at, put_board};
-use crate::laying::{bytes_in, put_guid, put_measure, put_words};
-use crate::making::{cells_if, guid, measure, words};
+use crate::laying::{bytes_in, put, put_id};
+use crate::making::{at, cells_if, id_at};
 use lane::Kind;
 use message::Message;
 use message::cells::NUMBERS;
-use message::values::Measure;
-use value::{Guid, Words};
+use message::values::Decimal;
+use value::Span;
 
 /// The attributes of a BoardForecast, in table order.
 #[derive(Clone, Copy)]
 pub struct BoardForecast {
-    pub forecast: Words,
-    pub until: Measure,
-    pub id: Guid,
-    pub by: Words,
+    pub forecast: Option<Span>,
+    pub until: Option<Decimal>,
+    pub id: Option<[u8; 36]>,
+    pub by: Option<Span>,
     pub board: Board,
 }
 
@@ -31,10 +31,10 @@ pub fn board_forecast(m: Message) -> BoardForecast
     let id = m.id;
     let cells = cells_if(kind == Kind::BOARD_FORECAST, m);
     BoardForecast {
-        forecast: words(cells, 0),
-        until: measure(cells, 1),
-        id: guid(cells, 2, id),
-        by: words(cells, 3),
+        forecast: at(cells, 0),
+        until: at(cells, 1),
+        id: id_at(cells, 2, id),
+        by: at(cells, 3),
         board: board_at(cells, 4),
     }
 }
@@ -48,10 +48,10 @@ pub fn of_board_forecast(v: BoardForecast) -> Message
     let id = v.id;
     let by = v.by;
     let board = v.board;
-    let cells = put_words([0u64; NUMBERS], 0, forecast);
-    let cells = put_measure(cells, 1, until);
-    let cells = put_guid(cells, 2, id);
-    let cells = put_words(cells, 3, by);
+    let cells = put([0u64; NUMBERS], 0, forecast);
+    let cells = put(cells, 1, until);
+    let cells = put_id(cells, 2, id);
+    let cells = put(cells, 3, by);
     let cells = put_board(cells, 4, board);
     Message {
         kind: Kind::BOARD_FORECAST,

@@ -4,6 +4,7 @@
 mod alive;
 mod board_part;
 mod boards;
+mod celled;
 mod forecasts;
 mod laying;
 mod making;

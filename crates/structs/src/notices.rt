@@ -4,20 +4,19 @@ ghost use Rattle.lane.specs.Names as kinds;
 ghost use Rattle.message.specs.Messages.{message_from};
 ghost use Rattle.structs.specs.Notices.{notice_in, notice_fields};
 
-use crate::laying::{put_whole, put_words};
-use crate::making::{cells_if, whole, words};
+use crate::laying::put;
+use crate::making::{at, cells_if};
 use lane::Kind;
 use message::Message;
 use message::cells::NUMBERS;
-use message::values::Whole;
-use value::Words;
+use value::Span;
 
 /// The attributes of a Notification, in table order.
 #[derive(Clone, Copy)]
 pub struct Notification {
-    pub code: Whole,
-    pub severity: Whole,
-    pub description: Words,
+    pub code: Option<u64>,
+    pub severity: Option<u64>,
+    pub description: Option<Span>,
 }
 
 // Outside it is called `notification`; here that would differ from the struct's name in case only.
@@ -28,9 +27,9 @@ pub fn notification_in(m: Message) -> Notification
     let kind = m.kind;
     let cells = cells_if(kind == Kind::NOTIFICATION, m);
     Notification {
-        code: whole(cells, 0),
-        severity: whole(cells, 1),
-        description: words(cells, 2),
+        code: at(cells, 0),
+        severity: at(cells, 1),
+        description: at(cells, 2),
     }
 }
 
@@ -41,9 +40,9 @@ pub fn of_notification(v: Notification) -> Message
     let code = v.code;
     let severity = v.severity;
     let description = v.description;
-    let cells = put_whole([0u64; NUMBERS], 0, code);
-    let cells = put_whole(cells, 1, severity);
-    let cells = put_words(cells, 2, description);
+    let cells = put([0u64; NUMBERS], 0, code);
+    let cells = put(cells, 1, severity);
+    let cells = put(cells, 2, description);
     Message {
         kind: Kind::NOTIFICATION,
         cells: cells,

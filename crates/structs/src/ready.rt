@@ -4,19 +4,18 @@ ghost use Rattle.lane.specs.Names as kinds;
 ghost use Rattle.message.specs.Messages.{message_from};
 ghost use Rattle.structs.specs.Ready.{ready_in, ready_fields};
 
-use crate::laying::{put_whole, put_words};
-use crate::making::{cells_if, whole, words};
+use crate::laying::put;
+use crate::making::{at, cells_if};
 use lane::Kind;
 use message::Message;
 use message::cells::NUMBERS;
-use message::values::Whole;
-use value::Words;
+use value::Span;
 
 /// The attributes of a MachineReady, in table order.
 #[derive(Clone, Copy)]
 pub struct MachineReady {
-    pub failed: Whole,
-    pub forecast: Words,
+    pub failed: Option<u64>,
+    pub forecast: Option<Span>,
 }
 
 /// What a MachineReady says; of a message of another kind all is absent.
@@ -26,8 +25,8 @@ pub fn machine_ready(m: Message) -> MachineReady
     let kind = m.kind;
     let cells = cells_if(kind == Kind::MACHINE_READY, m);
     MachineReady {
-        failed: whole(cells, 0),
-        forecast: words(cells, 1),
+        failed: at(cells, 0),
+        forecast: at(cells, 1),
     }
 }
 
@@ -37,8 +36,8 @@ pub fn of_machine_ready(v: MachineReady) -> Message
 {
     let failed = v.failed;
     let forecast = v.forecast;
-    let cells = put_whole([0u64; NUMBERS], 0, failed);
-    let cells = put_words(cells, 1, forecast);
+    let cells = put([0u64; NUMBERS], 0, failed);
+    let cells = put(cells, 1, forecast);
     Message {
         kind: Kind::MACHINE_READY,
         cells: cells,

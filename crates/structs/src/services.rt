@@ -4,21 +4,21 @@ ghost use Rattle.lane.specs.Names as kinds;
 ghost use Rattle.message.specs.Messages.{message_from};
 ghost use Rattle.structs.specs.Services.{service_in, service_fields};
 
-use crate::laying::{put_features, put_whole, put_words};
-use crate::making::{cells_if, features, whole, words};
+use crate::laying::put;
+use crate::making::{at, cells_if};
 use lane::Kind;
 use message::Message;
 use message::cells::NUMBERS;
-use message::values::{Features, Whole};
-use value::Words;
+use message::values::Features;
+use value::Span;
 
 /// The attributes of a ServiceDescription, in table order.
 #[derive(Clone, Copy)]
 pub struct ServiceDescription {
-    pub machine: Words,
-    pub lane: Whole,
-    pub version: Words,
-    pub features: Features,
+    pub machine: Option<Span>,
+    pub lane: Option<u64>,
+    pub version: Option<Span>,
+    pub features: Option<Features>,
 }
 
 /// What a ServiceDescription says; of a message of another kind all is absent.
@@ -28,10 +28,10 @@ pub fn service_description(m: Message) -> ServiceDescription
     let kind = m.kind;
     let cells = cells_if(kind == Kind::SERVICE_DESCRIPTION, m);
     ServiceDescription {
-        machine: words(cells, 0),
-        lane: whole(cells, 1),
-        version: words(cells, 2),
-        features: features(cells, 3),
+        machine: at(cells, 0),
+        lane: at(cells, 1),
+        version: at(cells, 2),
+        features: at(cells, 3),
     }
 }
 
@@ -43,10 +43,10 @@ pub fn of_service_description(v: ServiceDescription) -> Message
     let lane = v.lane;
     let version = v.version;
     let features = v.features;
-    let cells = put_words([0u64; NUMBERS], 0, machine);
-    let cells = put_whole(cells, 1, lane);
-    let cells = put_words(cells, 2, version);
-    let cells = put_features(cells, 3, features);
+    let cells = put([0u64; NUMBERS], 0, machine);
+    let cells = put(cells, 1, lane);
+    let cells = put(cells, 2, version);
+    let cells = put(cells, 3, features);
     Message {
         kind: Kind::SERVICE_DESCRIPTION,
         cells: cells,

@@ -4,19 +4,18 @@ ghost use Rattle.lane.specs.Names as kinds;
 ghost use Rattle.message.specs.Messages.{message_from};
 ghost use Rattle.structs.specs.Starts.{start_in, start_fields};
 
-use crate::laying::{bytes_in, put_guid, put_measure};
-use crate::making::{cells_if, guid, measure};
+use crate::laying::{bytes_in, put, put_id};
+use crate::making::{at, cells_if, id_at};
 use lane::Kind;
 use message::Message;
 use message::cells::NUMBERS;
-use message::values::Measure;
-use value::Guid;
+use message::values::Decimal;
 
 /// The attributes of a StartTransport, in table order.
 #[derive(Clone, Copy)]
 pub struct StartTransport {
-    pub id: Guid,
-    pub speed: Measure,
+    pub id: Option<[u8; 36]>,
+    pub speed: Option<Decimal>,
 }
 
 /// What a StartTransport says; of a message of another kind all is absent.
@@ -27,8 +26,8 @@ pub fn start_transport(m: Message) -> StartTransport
     let id = m.id;
     let cells = cells_if(kind == Kind::START_TRANSPORT, m);
     StartTransport {
-        id: guid(cells, 0, id),
-        speed: measure(cells, 1),
+        id: id_at(cells, 0, id),
+        speed: at(cells, 1),
     }
 }
 
@@ -38,8 +37,8 @@ pub fn of_start_transport(v: StartTransport) -> Message
 {
     let id = v.id;
     let speed = v.speed;
-    let cells = put_guid([0u64; NUMBERS], 0, id);
-    let cells = put_measure(cells, 1, speed);
+    let cells = put_id([0u64; NUMBERS], 0, id);
+    let cells = put(cells, 1, speed);
     Message {
         kind: Kind::START_TRANSPORT,
         cells: cells,

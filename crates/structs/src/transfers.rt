@@ -4,19 +4,17 @@ ghost use Rattle.lane.specs.Names.{StopTransport, TransportFinished};
 ghost use Rattle.message.specs.Messages.{message_from};
 ghost use Rattle.structs.specs.Transfers.{transfer_in, transfer_fields};
 
-use crate::laying::{bytes_in, put_guid, put_whole};
-use crate::making::{cells_if, guid, whole};
+use crate::laying::{bytes_in, put, put_id};
+use crate::making::{at, cells_if, id_at};
 use lane::Kind;
 use message::Message;
 use message::cells::NUMBERS;
-use message::values::Whole;
-use value::Guid;
 
 /// The attributes of both, in table order.
 #[derive(Clone, Copy)]
 pub struct Transfer {
-    pub state: Whole,
-    pub id: Guid,
+    pub state: Option<u64>,
+    pub id: Option<[u8; 36]>,
 }
 
 // Outside it is called `transfer`; here that would differ from the struct's name in case only.
@@ -30,8 +28,8 @@ pub fn transfer_in(m: Message) -> Transfer
     let finished = kind == Kind::TRANSPORT_FINISHED;
     let cells = cells_if(stopped | finished, m);
     Transfer {
-        state: whole(cells, 0),
-        id: guid(cells, 1, id),
+        state: at(cells, 0),
+        id: id_at(cells, 1, id),
     }
 }
 
@@ -41,8 +39,8 @@ fn of_transfer(kind: u8, v: Transfer) -> Message
 {
     let state = v.state;
     let id = v.id;
-    let cells = put_whole([0u64; NUMBERS], 0, state);
-    let cells = put_guid(cells, 1, id);
+    let cells = put([0u64; NUMBERS], 0, state);
+    let cells = put_id(cells, 1, id);
     Message {
         kind: kind,
         cells: cells,

@@ -3,7 +3,7 @@ ghost use Rattle.value.specs.Asking.{paper, Answer, TextSays};
 
 use decodes::decode::decode;
 use decodes::{is_as_read, is_plain, is_quotable, text_len};
-use value::{Span, TextAt, Words};
+use value::{Span, TextAt};
 
 // The text of the bytes w, which stand at p. Plain ones, which most are, stand as they read.
 fn text_of(w: &[u8], p: Span, scratch: &mut [u8]) -> TextAt
@@ -29,10 +29,10 @@ fn text_of(w: &[u8], p: Span, scratch: &mut [u8]) -> TextAt
 }
 
 /// Where the text of the value t of the message is; what must be decoded is written first in `scratch`.
-pub fn text_decode(msg: &[u8], t: Words, scratch: &mut [u8]) -> TextAt
+pub fn text_decode(msg: &[u8], t: Option<Span>, scratch: &mut [u8]) -> TextAt
     ensures { TextSays msg.now t scratch.old scratch.new (paper result) }
 {
-    let Words::Present(p) = t else {
+    let Some(p) = t else {
         return TextAt::No(4);
     };
     let start = p.start;

@@ -1,4 +1,5 @@
 -- A text that was asked for: the part that is handed out is its bytes.
+use Rattle.std.specs.Prelude.{Some}
 use mathlib.Core.Path.{◌≡◌, refl, sym, ap, subst, ◌∙◌}
 use mathlib.Core.List.{List, ◌++◌}
 use Prim.Native.Nat.{ℕ, ◌+◌, ◌≤◌}
@@ -15,7 +16,6 @@ use Rattle.value.specs.Asking.{paper, Answer, no_value, stands, no_room_case, de
 use Rattle.value.proofs.Only.{paper_injective}
 use Rattle.value.specs.Parts.{part_or, part_at, Lies}
 use Rattle.value.specs.declared.text.Span.{Span}
-use Rattle.value.specs.declared.text.Words.TheVariants.{Present}
 use Rattle.value.specs.declared.text.TextAt.{TextAt}
 use Rattle.value.specs.declared.text.TextAt.TheVariants.{InMessage, InScratch}
 
@@ -33,10 +33,10 @@ module _ (s scratch : Bytes) (at : TextAt) (a b : ℕ × ℕ) {part : Bor (List 
       ∙ rw (le-leb (0 + length v) (length scratch) (omega arith)) (ap (take (length v)) g ∙ take-append_seam v (drop (length v) room))
 
   -- where the scratch has room for it
-  pub part_is_text : {room : Bytes} (p : Span) → TextSays s (Present p) room scratch (paper at) → p.start + p.len ≤ length s → (v : Bytes) → Text (take p.len (drop p.start s)) v → length v ≤ length room → part.now ≡ v
+  pub part_is_text : {room : Bytes} (p : Span) → TextSays s (Some p) room scratch (paper at) → p.start + p.len ≤ length s → (v : Bytes) → Text (take p.len (drop p.start s)) v → length v ≤ length room → part.now ≡ v
   part_is_text {room} p says l v t h = go says
     where
-      one : {q : Span} → Present p ≡ Present q → p ≡ q
+      one : {q : Span} → Some p ≡ Some q → p ≡ q
       one e = cc
 
       of : Answer (take p.len (drop p.start s)) p room scratch (paper at) → part.now ≡ v
@@ -45,7 +45,7 @@ module _ (s scratch : Bytes) (at : TextAt) (a b : ℕ × ℕ) {part : Bor (List 
       of (no_room_case u x y m f g) = absurd (let e = ap length (text_one x t) in omega arith)
       of (decoded u x y m f g) = in_scratch_lem u room (paper_injective at (InScratch (length u)) f) g ∙ text_one x t
 
-      go : TextSays s (Present p) room scratch (paper at) → part.now ≡ v
+      go : TextSays s (Some p) room scratch (paper at) → part.now ≡ v
       go (absent e f g) = absurd (let z : ◌≡◌ {A = ℕ} 0 1 = cc in omega arith)
       go (outside q e m f g) = absurd (let z = ap (λ (p : Span). p.start + p.len) (one e) in omega arith)
       go (there q e m x) = of (subst (λ (q : Span). Answer (take q.len (drop q.start s)) q room scratch (paper at)) (sym (one e)) x)

@@ -1,4 +1,5 @@
 -- A GUID is 36 bytes; the id that bytes are.
+use Rattle.std.specs.Prelude.{Option, Some, None}
 use mathlib.Core.Path.{◌≡◌, refl, sym, ◌∙◌}
 use mathlib.Core.List.{List, [], ◌∷◌}
 use mathlib.Core.Bool.{Bool, true, false}
@@ -8,8 +9,7 @@ use Rattle.exact.specs.Chain.{clash}
 use Rattle.grammar.specs.Bytes.{Bytes}
 use Rattle.number.specs.Guid.{Place, places, may, filled, guid_of}
 use Rattle.number.proofs.Tests.{and_right}
-use Rattle.value.specs.Ids.{no_id, id_read}
-use Rattle.value.specs.declared.id.Guid.{Guid}
+use Rattle.value.specs.Ids.{id_read}
 
 filled_long : (ps : List Place) (v : Bytes) → filled ps v ≡ true → length v ≡ length ps
 unfolding filled
@@ -27,10 +27,10 @@ module _ (v : Bytes) {r : Bool} (g : r ≡ guid_of v) where
   pub id_long : r ≡ true → length v ≡ 36
   id_long e = guid_long v (sym g ∙ e)
 
-  pub id_bytes : r ≡ true → {b : Bytes} → b ≡ v → record { there = true; bytes = b } ≡ id_read v
+  pub id_bytes : r ≡ true → {b : Bytes} → b ≡ v → Some b ≡ id_read v
   unfolding id_read
   id_bytes e f = let k : guid_of v ≡ true = sym g ∙ e in rw (k, f)
 
-  pub id_zeros : r ≡ false → {q : Guid} → q ≡ no_id → q ≡ id_read v
+  pub id_none : r ≡ false → {q : Option Bytes} → q ≡ None → q ≡ id_read v
   unfolding id_read
-  id_zeros e f = let k : guid_of v ≡ false = sym g ∙ e in rw k f
+  id_none e f = let k : guid_of v ≡ false = sym g ∙ e in rw k f

@@ -1,5 +1,5 @@
 -- No second answer meets a promise; when the answer is 6; and where it is never 7.
-use Rattle.std.specs.Prelude.{◌≡◌, refl, List, ◌++◌, ◌⊎◌, ◌↔◌, ℕ, ◌+◌, ◌≤◌, ◌<◌, length, take, drop}
+use Rattle.std.specs.Prelude.{◌≡◌, refl, List, ◌++◌, ◌⊎◌, ◌↔◌, ℕ, ◌+◌, ◌≤◌, ◌<◌, length, take, drop, Option, Some, None}
 use Rattle.std.proofs.Common.{sym, ap, subst, ◌∙◌, inl, inr, arith, length-drop, length-take-le}
 use Rattle.std.specs.Borrow.{Bor}
 use Rattle.exact.specs.Chain.{clash}
@@ -11,8 +11,6 @@ use Rattle.value.proofs.Size.{reads_no_longer}
 use Rattle.value.specs.Asking.{in_scratch, Told, handed, refused, paper, NoText, Answer, no_value, stands, no_room_case, decoded, TextSays, absent, outside, there}
 use Rattle.value.specs.Parts.{Place, Lies}
 use Rattle.value.specs.declared.text.Span.{Span}
-use Rattle.value.specs.declared.text.Words.{Words}
-use Rattle.value.specs.declared.text.Words.TheVariants.{Absent, Present}
 use Rattle.value.specs.declared.text.TextAt.{TextAt}
 use Rattle.value.specs.declared.text.TextAt.TheVariants.{InMessage, InScratch, No}
 use Rattle.value.specs.Only.{Same}
@@ -66,16 +64,16 @@ module _ {w old new new' : Bytes} {p : Span} {r r' : Told} where
       let e = text_one x' x in
       both a b (c ∙ ap (λ (v : Bytes). handed (in_scratch (length v))) e) (d ∙ ap (λ (v : Bytes). v ++ drop (length v) old) e)
 
-one_span : {t : Words} {p p' : Span} → t ≡ Present p → t ≡ Present p' → p ≡ p'
+one_span : {t : Option Span} {p p' : Span} → t ≡ Some p → t ≡ Some p' → p ≡ p'
 one_span a b = cc
 
-not_both : {X : Type 0} {t : Words} {p : Span} → t ≡ Absent → t ≡ Present p → X
+not_both : {X : Type 0} {t : Option Span} {p : Span} → t ≡ None → t ≡ Some p → X
 not_both a b = absurd (let z : ◌≡◌ {A = ℕ} 0 1 = cc in omega arith)
 
 far_out : (msg : Bytes) (p p' : Span) → p ≡ p' → length msg < p.start + p.len → p'.start + p'.len ≤ length msg → ⊥
 far_out msg p p' e h k = let a = ap (λ (p : Span). p.start + p.len) e in omega arith
 
-pub says_only : {msg old new new' : Bytes} {t : Words} {r r' : Told} → TextSays msg t old new r → TextSays msg t old new' r' → Same new new' r r'
+pub says_only : {msg old new new' : Bytes} {t : Option Span} {r r' : Told} → TextSays msg t old new r → TextSays msg t old new' r' → Same new new' r r'
 says_only (absent e a b) (absent f c d) = both a b c d
 says_only (absent e a b) (outside p f h c d) = not_both e f
 says_only (absent e a b) (there p f h y) = not_both e f
@@ -88,7 +86,7 @@ says_only {msg} {old} {new} {new'} {t} {r} {r'} (there p e h x) (there p' f k y)
     answer_only x (subst (λ (p : Span). Answer (take p.len (drop p.start msg)) p old new' r') (one_span f e) y)
 
 -- of `text_decode`
-pub decode_only : {msg old new new' : Bytes} {t : Words} {r r' : TextAt} → TextSays msg t old new (paper r) → TextSays msg t old new' (paper r') → Same new new' r r'
+pub decode_only : {msg old new new' : Bytes} {t : Option Span} {r r' : TextAt} → TextSays msg t old new (paper r) → TextSays msg t old new' (paper r') → Same new new' r r'
 decode_only {r = r} {r' = r'} x y = let s = says_only x y in record { answer = paper_injective r r' s.answer; scratch = s.scratch }
 
 -- of `text_part`: one address, and one list of bytes
@@ -96,7 +94,7 @@ pub part_only : {p : Place} {r r' : Bor (List ℕ)} → Lies p r → Lies p r' �
 part_only x y = (x.block ∙ sym y.block, x.offset ∙ sym y.offset, x.bytes ∙ sym y.bytes)
 
 -- T1.7: the answer is 6 exactly if the place runs outside the message bytes or the bytes there could stand as a value in neither kind of quotes
-pub text_six_iff : {msg old new : Bytes} {p : Span} {r : Told} → TextSays msg (Present p) old new r → (r ≡ refused 6) ↔ ((length msg < p.start + p.len) ⊎ NoText (take p.len (drop p.start msg)))
+pub text_six_iff : {msg old new : Bytes} {p : Span} {r : Told} → TextSays msg (Some p) old new r → (r ≡ refused 6) ↔ ((length msg < p.start + p.len) ⊎ NoText (take p.len (drop p.start msg)))
 text_six_iff {msg} {old} {new} {p} {r} x = (to x, from x)
   where
     Outcome : Type 0
@@ -111,7 +109,7 @@ text_six_iff {msg} {old} {new} {p} {r} x = (to x, from x)
     six e (no_room_case v y s l a b) q = absurd (let z = other a q in omega arith)
     six e (decoded v y s l a b) q = absurd (let z = other a q in omega arith)
 
-    to : TextSays msg (Present p) old new r → r ≡ refused 6 → Outcome
+    to : TextSays msg (Some p) old new r → r ≡ refused 6 → Outcome
     to (absent e a b) q = not_both e refl
     to (outside p' e h a b) q = inl (let z = ap (λ (p : Span). p.start + p.len) (one_span e refl) in omega arith)
     to (there p' e h y) q = six (one_span e refl) y q
@@ -122,14 +120,14 @@ text_six_iff {msg} {old} {new} {p} {r} x = (to x, from x)
     none e (no_room_case v y s l a b) n = absurd (n v (subst (λ (p : Span). Text (take p.len (drop p.start msg)) v) e y))
     none e (decoded v y s l a b) n = absurd (n v (subst (λ (p : Span). Text (take p.len (drop p.start msg)) v) e y))
 
-    from : TextSays msg (Present p) old new r → Outcome → r ≡ refused 6
+    from : TextSays msg (Some p) old new r → Outcome → r ≡ refused 6
     from (absent e a b) o = not_both e refl
     from (outside p' e h a b) o = a
     from (there p' e h y) (inl k) = absurd (far_out msg p p' (one_span refl e) k h)
     from (there p' e h y) (inr n) = none (one_span e refl) y n
 
 -- a scratch as long as the raw value is long enough
-pub scratch_enough : {msg old new : Bytes} {p : Span} {r : Told} → TextSays msg (Present p) old new r → p.len ≤ length old → r ≡ refused 7 → ⊥
+pub scratch_enough : {msg old new : Bytes} {p : Span} {r : Told} → TextSays msg (Some p) old new r → p.len ≤ length old → r ≡ refused 7 → ⊥
 scratch_enough {msg} {old} {new} {p} {r} x enough q = go x
   where
     other : {a : Told} → r ≡ a → a.number ≡ 7
@@ -151,7 +149,7 @@ scratch_enough {msg} {old} {new} {p} {r} x enough q = go x
     room e h (no_room_case v y s l a b) = short e h y l
     room e h (decoded v y s l a b) = let z = other a in omega arith
 
-    go : TextSays msg (Present p) old new r → ⊥
+    go : TextSays msg (Some p) old new r → ⊥
     go (absent e a b) = not_both e refl
     go (outside p' e h a b) = let z = other a in omega arith
     go (there p' e h y) = room (one_span e refl) h y

@@ -1,4 +1,6 @@
 -- No second answer meets a promise: of a text asked for in one call, of the number that is said of it, and of the numbers and the id of a raw value.
+use Rattle.std.specs.Prelude.{Option}
+use Rattle.value.specs.declared.text.Span.{Span}
 use mathlib.Core.Path.{◌≡◌, refl, sym, ap, subst, ◌∙◌}
 use mathlib.Core.List.{List, [], ◌++◌}
 use mathlib.Core.Bool.{Bool}
@@ -22,8 +24,6 @@ use Rattle.value.specs.Ids.{IdReads}
 use Rattle.value.specs.Parts.{part_at, Lies}
 use Rattle.value.specs.Asked.{refusal_of, Asked}
 use Rattle.value.proofs.Only.{decode_only, part_only}
-use Rattle.value.specs.declared.id.Guid.{Guid}
-use Rattle.value.specs.declared.text.Words.{Words}
 use Rattle.value.specs.declared.text.TextAt.{TextAt}
 
 -- of `ask_text`: one number, one address, one list of bytes
@@ -31,7 +31,7 @@ pub record SameText (k k' : ℕ) (r r' : Bor (List ℕ)) : Type 0 where
   pub refusal : k ≡ k'
   pub part : (r.ref_ptr.0 ≡ r'.ref_ptr.0) × (r.ref_ptr.1 ≡ r'.ref_ptr.1) × (r.now ≡ r'.now)
 
-pub ask_only : {a : ℕ × ℕ} {m : Bytes} {t : Words} {b : ℕ × ℕ} {old : Bytes} {k k' : ℕ} {r r' : Bor (List ℕ)} → Asked a m t b old k r → Asked a m t b old k' r' → SameText k k' r r'
+pub ask_only : {a : ℕ × ℕ} {m : Bytes} {t : Option Span} {b : ℕ × ℕ} {old : Bytes} {k k' : ℕ} {r r' : Bor (List ℕ)} → Asked a m t b old k r → Asked a m t b old k' r' → SameText k k' r r'
 ask_only {a} {m} {t} {b} {old} {k} {k'} {r} {r'} x y =
     let s = decode_only x.says y.says in
     let p : Lies (part_at a m b x.scratch x.at) r' = subst (λ (z : TextAt). Lies (part_at a m b x.scratch z) r') (sym s.answer) (subst (λ (z : Bytes). Lies (part_at a m b z y.at) r') (sym s.scratch) y.part) in
@@ -82,5 +82,5 @@ pub version_at_only : {w : Bytes} (r q : Bool) → VersionReads w r → VersionR
 version_at_only r q x y = reads_only (λ v a b. version_only v r q a b) x y
 
 -- of `id_at`
-pub id_only : {w : Bytes} (r q : Guid) → IdReads w r → IdReads w q → r ≡ q
+pub id_only : {w : Bytes} (r q : Option Bytes) → IdReads w r → IdReads w q → r ≡ q
 id_only r q x y = reads_only (λ v a b. a ∙ sym b) x y

@@ -1,10 +1,8 @@
 -- Asking for a text: what is answered, and what the scratch holds afterwards.
-use Rattle.std.specs.Prelude.{◌≡◌, ◌++◌, true, false, ℕ, ◌+◌, ◌≤◌, ◌<◌, length, take, drop}
+use Rattle.std.specs.Prelude.{◌≡◌, ◌++◌, true, false, ℕ, ◌+◌, ◌≤◌, ◌<◌, length, take, drop, Option, Some, None}
 use Rattle.grammar.specs.Bytes.{Bytes}
 use Rattle.value.specs.Text.{Text, as_read}
 use Rattle.value.specs.declared.text.Span.{Span}
-use Rattle.value.specs.declared.text.Words.{Words}
-use Rattle.value.specs.declared.text.Words.TheVariants.{Absent, Present}
 use Rattle.value.specs.declared.text.TextAt.{TextAt}
 use Rattle.value.specs.declared.text.TextAt.TheVariants.{InMessage, InScratch, No}
 
@@ -56,7 +54,7 @@ pub data Answer (w : Bytes) (p : Span) (old new : Bytes) (r : Told) : Type 0 whe
   decoded : (v : Bytes) → Text w v → as_read w ≡ false → length v ≤ length old → r ≡ handed (in_scratch (length v)) → new ≡ v ++ drop (length v) old → Answer w p old new r
 
 -- of the value t of the message
-pub data TextSays (msg : Bytes) (t : Words) (old new : Bytes) (r : Told) : Type 0 where
-  absent : t ≡ Absent → r ≡ refused ABSENT → new ≡ old → TextSays msg t old new r
-  outside : (p : Span) → t ≡ Present p → length msg < p.start + p.len → r ≡ refused NO_VALUE → new ≡ old → TextSays msg t old new r
-  there : (p : Span) → t ≡ Present p → p.start + p.len ≤ length msg → Answer (take p.len (drop p.start msg)) p old new r → TextSays msg t old new r
+pub data TextSays (msg : Bytes) (t : Option Span) (old new : Bytes) (r : Told) : Type 0 where
+  absent : t ≡ None → r ≡ refused ABSENT → new ≡ old → TextSays msg t old new r
+  outside : (p : Span) → t ≡ Some p → length msg < p.start + p.len → r ≡ refused NO_VALUE → new ≡ old → TextSays msg t old new r
+  there : (p : Span) → t ≡ Some p → p.start + p.len ≤ length msg → Answer (take p.len (drop p.start msg)) p old new r → TextSays msg t old new r

@@ -1,5 +1,5 @@
 -- Worked examples: what asking for a text answers, and which part is handed out. They hold by computation.
-use Rattle.std.specs.Prelude.{◌≡◌, refl, [], ◌∷◌, true, false, replicate}
+use Rattle.std.specs.Prelude.{◌≡◌, refl, [], ◌∷◌, Some, None}
 use Prim.Native.Char.{code}
 use Rattle.std.proofs.Common.{arith}
 use Rattle.grammar.specs.Bytes.{text, within}
@@ -13,7 +13,6 @@ use Rattle.value.specs.Text.{Text, altered}
 use Rattle.value.specs.Asking.{in_message, in_scratch, handed, refused, paper, stands, no_room_case, decoded, TextSays, absent, outside, there}
 use Rattle.value.specs.Parts.{part_or, part_at}
 use Rattle.value.specs.Ids.{id_read}
-use Rattle.value.specs.declared.text.Words.TheVariants.{Absent, Present}
 use Rattle.value.specs.declared.text.TextAt.TheVariants.{InMessage, InScratch, No}
 
 -- the bytes that do not read as they stand: `&` begins a reference, tab, LF and CR read as a space
@@ -31,24 +30,24 @@ unfolding is_quote utf8 read_item read_value
 coded = record { quote = code "\""; quoted = refl; items = ref (named amp) ∷ []; good = good_item (good_ref good_named) good_last; spelt = refl; reads = refl }
 
 -- "4 if absent, 6 if its place runs outside the message bytes", by one byte
-pub says_four : TextSays (text "a") Absent (text "zz") (text "zz") (refused 4)
+pub says_four : TextSays (text "a") None (text "zz") (text "zz") (refused 4)
 says_four = absent refl refl refl
 
-pub says_six : TextSays (text "a") (Present (record { start = 1; len = 1 })) (text "zz") (text "zz") (refused 6)
+pub says_six : TextSays (text "a") (Some (record { start = 1; len = 1 })) (text "zz") (text "zz") (refused 6)
 says_six = outside (record { start = 1; len = 1 }) refl (omega arith) refl refl
 
 -- "as a part of the message bytes where it stands there exactly as read", with no scratch at all
-pub says_message : TextSays (text "xa") (Present (record { start = 1; len = 1 })) [] [] (handed (in_message 1 1))
+pub says_message : TextSays (text "xa") (Some (record { start = 1; len = 1 })) [] [] (handed (in_message 1 1))
 unfolding altered
 says_message = there (record { start = 1; len = 1 }) refl (omega arith) (stands (text "a") plain refl refl refl)
 
 -- "7 exactly if it must be decoded and the scratch is shorter"
-pub says_seven : TextSays (text "&amp;") (Present (record { start = 0; len = 5 })) [] [] (refused 7)
+pub says_seven : TextSays (text "&amp;") (Some (record { start = 0; len = 5 })) [] [] (refused 7)
 unfolding altered
 says_seven = there (record { start = 0; len = 5 }) refl (omega arith) (no_room_case (text "&") coded refl (omega arith) refl refl)
 
 -- "Decoding starts at its first byte and changes only the bytes it needs."
-pub says_scratch : TextSays (text "&amp;") (Present (record { start = 0; len = 5 })) (text "zz") (text "&z") (handed (in_scratch 1))
+pub says_scratch : TextSays (text "&amp;") (Some (record { start = 0; len = 5 })) (text "zz") (text "&z") (handed (in_scratch 1))
 unfolding altered
 says_scratch = there (record { start = 0; len = 5 }) refl (omega arith) (decoded (text "&") coded refl (omega arith) refl refl)
 
@@ -69,9 +68,9 @@ pub parts :
 unfolding part_at part_or
 parts = (refl, refl, refl, refl, refl)
 
--- an id is handed out as it reads, and none is 36 zero bytes
+-- an id is handed out as it reads
 pub ids :
-    (id_read (text "01234567-89ab-cdef-0123-456789abcdef") ≡ record { there = true; bytes = text "01234567-89ab-cdef-0123-456789abcdef" })
-    × (id_read (text "01234567-89ab-cdef-0123-456789abcdeF") ≡ record { there = false; bytes = replicate 36 0 })
+    (id_read (text "01234567-89ab-cdef-0123-456789abcdef") ≡ Some (text "01234567-89ab-cdef-0123-456789abcdef"))
+    × (id_read (text "01234567-89ab-cdef-0123-456789abcdeF") ≡ None)
 unfolding id_read guid_of filled may hex digit
 ids = (refl, refl)

@@ -1,8 +1,6 @@
 // The text of a value: what stands between an attribute's quotes, as it reads. Types and definitions only.
 #![tactic(auto)]
 
-mod id;
 mod text;
 
-pub use id::Guid;
-pub use text::{Span, TextAt, Words};
+pub use text::{Span, TextAt};

@@ -7,13 +7,6 @@ pub struct Span {
     pub len: usize,
 }
 
-/// The raw value that an attribute has, if it has one.
-#[derive(Clone, Copy)]
-pub enum Words {
-    Absent,
-    Present(Span),
-}
-
 /// Where a text is: there in the message bytes; the first bytes of the scratch, so many; or refused.
 #[derive(Clone, Copy)]
 pub enum TextAt {

@@ -1,4 +1,5 @@
 -- The bytes of the line: a word and four columns, one put behind the other, and that they fit.
+use Rattle.std.specs.Prelude.{Option, Some, None}
 use mathlib.Core.Path.{◌≡◌, refl, sym, subst}
 use mathlib.Core.Bool.{false}
 use Prim.Native.Nat.{ℕ, ◌+◌, ◌≤◌}
@@ -7,8 +8,6 @@ use native.Mathlib.Omega.{arith}
 use lib.ListN.{length}
 use Rattle.grammar.specs.Bytes.{Bytes, text}
 use Rattle.value.specs.declared.text.Span.{Span}
-use Rattle.value.specs.declared.text.Words.{Words}
-use Rattle.value.specs.declared.text.Words.TheVariants.{Absent, Present}
 use Rattle.printing.specs.Put.{Wrote}
 use Rattle.printing.specs.Writes.{◌then◌}
 use Rattle.lines.specs.Text.{LF}
@@ -28,11 +27,11 @@ reason_put room i j k l m =
     let whole = i then j.wrote then k.wrote then l.wrote then m.wrote in
     record { wrote = whole; inside = omega (arith, i.next, j.reach, k.reach, l.reach, m.reach, whole.long) }
 
-pub absent_told : {old new : Bytes} {at r : ℕ} (base : ℕ) (d : Decision) → d.value ≡ Absent → Printed old at (reason_text d.row 0 0 0) new r → Printed old at (why_text base d) new r
-absent_told {old} {new} {at} {r} base d e p = subst (λ (w : Words). Printed old at (value_text base d.row w) new r) (sym e) p
+pub absent_told : {old new : Bytes} {at r : ℕ} (base : ℕ) (d : Decision) → d.value ≡ None → Printed old at (reason_text d.row 0 0 0) new r → Printed old at (why_text base d) new r
+absent_told {old} {new} {at} {r} base d e p = subst (λ (w : Option Span). Printed old at (value_text base d.row w) new r) (sym e) p
 
-pub present_told : {old new : Bytes} {at r n : ℕ} (base : ℕ) (d : Decision) (p : Span) → d.value ≡ Present p → n ≡ in64 (base + p.start) → Printed old at (reason_text d.row 1 n p.len) new r → Printed old at (why_text base d) new r
-present_told {old} {new} {at} {r} {n} base d p e f q = subst (λ (w : Words). Printed old at (value_text base d.row w) new r) (sym e) (subst (λ (n : ℕ). Printed old at (reason_text d.row 1 n p.len) new r) f q)
+pub present_told : {old new : Bytes} {at r n : ℕ} (base : ℕ) (d : Decision) (p : Span) → d.value ≡ Some p → n ≡ in64 (base + p.start) → Printed old at (reason_text d.row 1 n p.len) new r → Printed old at (why_text base d) new r
+present_told {old} {new} {at} {r} {n} base d p e f q = subst (λ (w : Option Span). Printed old at (value_text base d.row w) new r) (sym e) (subst (λ (n : ℕ). Printed old at (reason_text d.row 1 n p.len) new r) f q)
 
 -- behind a line, by the refusal
 pub behind_none : {b old : Bytes} {w : Window} {refusal : ℕ} {r : Room} → refusal ≡ 0 → r.waiting ≤ length old → Behind b w refusal old r.waiting old r

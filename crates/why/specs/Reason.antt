@@ -1,9 +1,8 @@
 -- The line that tells what decided over a message: `why`, the row, whether its attribute is there, where its raw value starts in the input, and its length.
-use Rattle.std.specs.Prelude.{◌≡◌, ◌++◌, false, ℕ, ◌+◌, ◌≤◌, length}
+use Rattle.value.specs.declared.text.Span.{Span}
+use Rattle.std.specs.Prelude.{◌≡◌, ◌++◌, false, ℕ, ◌+◌, ◌≤◌, length, Option, Some, None}
 use Prim.Native.Char.{code}
 use Rattle.grammar.specs.Bytes.{Bytes, text}
-use Rattle.value.specs.declared.text.Words.{Words}
-use Rattle.value.specs.declared.text.Words.TheVariants.{Absent, Present}
 use Rattle.lines.specs.Text.{LF, column}
 use Rattle.windows.specs.Held.{bytes_of, Turned}
 use Rattle.windows.specs.Printed.{in64, Printed, left}
@@ -18,9 +17,9 @@ unfoldable pub reason_text : ℕ → ℕ → ℕ → ℕ → Bytes
 reason_text row there start len = text "why " ++ column row (code " ") ++ column there (code " ") ++ column start (code " ") ++ column len LF
 
 -- the value of a row: absent, or where it stands
-abbrev pub value_text : ℕ → ℕ → Words → Bytes
-value_text base row Absent = reason_text row 0 0 0
-value_text base row (Present p) = reason_text row 1 (in64 (base + p.start)) p.len
+abbrev pub value_text : ℕ → ℕ → Option Span → Bytes
+value_text base row None = reason_text row 0 0 0
+value_text base row (Some p) = reason_text row 1 (in64 (base + p.start)) p.len
 
 -- in a window that stands behind `base` bytes
 abbrev pub why_text : ℕ → Decision → Bytes

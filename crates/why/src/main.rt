@@ -11,7 +11,6 @@ ghost use Rattle.why.specs.Reason.{reason_text, why_text, Explained, Behind, Ste
 use decides::{Decision, decided};
 use printing::put;
 use std::io::Read;
-use value::Words;
 use windows::ending::{Ending, ended, tell};
 use windows::output::{Room, counted, made_room, put_column};
 use windows::turn::turn;
@@ -37,8 +36,8 @@ fn why_line(out: &mut [u8], at: usize, base: u64, d: Decision) -> usize
     let row = d.row as u64;
     let value = d.value;
     match value {
-        Words::Absent => reason(out, at, row, 0, 0, 0),
-        Words::Present(p) => reason(out, at, row, 1, counted(base, p.start), p.len as u64),
+        None => reason(out, at, row, 0, 0, 0),
+        Some(p) => reason(out, at, row, 1, counted(base, p.start), p.len as u64),
     }
 }
 

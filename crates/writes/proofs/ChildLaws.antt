@@ -1,4 +1,5 @@
 -- The child of one row, its features, and what closes an element.
+use Rattle.std.specs.Prelude.{Some, None}
 use mathlib.Core.Path.{◌≡◌, refl, sym, ap, ◌∙◌}
 use mathlib.Core.List.{[], ◌∷◌, ◌++◌, append_assoc, append-nil}
 use mathlib.Core.Bool.{Bool, true, false, ◌&&◌, ◌||◌, cond}
@@ -13,7 +14,7 @@ use Rattle.model.specs.Tests.{and_left, and_right}
 use Rattle.printing.proofs.PieceLaws.{Made}
 use Rattle.table.specs.Table.{Form, words, some_words, whole, guid, version, positive, features}
 use Rattle.message.specs.Fields.{a_features}
-use Rattle.message.specs.Cells.{is_there, features_by, field_by}
+use Rattle.message.specs.Cells.{is_there, bit, features_by, field_by}
 use Rattle.meant.specs.Written.{closed, empty_tag, features_inside, child_of}
 use Rattle.meant.proofs.ValueLaws.{is_child}
 use Rattle.rows.specs.Coding.{names, name_at, row_of}
@@ -46,7 +47,7 @@ abbrev listed : ℕ → ℕ → ℕ → Bytes
 listed x y z = flagged x (name_at 0 20) ++ (flagged y (name_at 1 21) ++ flagged z (name_at 2 20))
 
 listed_is : (bits : ℕ) → features_in bits ≡ listed (bits % 2) (bits / 2 % 2) (bits / 4 % 2)
-unfolding features_in features_by flagged names
+unfolding features_in flagged names
 listed_is bits = refl
 
 none_listed : (x y z : ℕ) → x + y + z ≡ 0 → listed x y z ≡ []
@@ -122,11 +123,11 @@ some_child (whole lo hi) n t a = refl
 some_child guid n t a = refl
 some_child version n t a = refl
 some_child positive n t a = refl
-some_child features n t a = go (is_there t) (n ++ closed n (features_inside (features_by t a)))
+some_child features n t a = go (is_there t)
   where
-    go : (b : Bool) (w : Bytes) → non_empty (cond b (text "<" ++ w) []) ≡ b
-    go true w = refl
-    go false w = refl
+    go : (b : Bool) → non_empty (child_of n (a_features (cond b (Some (record { forecast = bit a; query = bit (a / 2); send = bit (a / 4) })) None))) ≡ b
+    go true = refl
+    go false = refl
 
 some_row : (c : Coded) (t a : ℕ) {r : Bool} → r ≡ eqb c.form 0 && is_there t → non_empty (child_bytes c t a) ≡ r
 unfolding child_bytes

@@ -1,12 +1,12 @@
 -- The rows of a message of cells: what each puts down and why it may be refused, and the rows one behind the other.
-use Rattle.std.specs.Prelude.{◌≡◌, List, [], ◌++◌, cond, ℕ, length}
+use Rattle.std.specs.Prelude.{◌≡◌, List, [], ◌++◌, cond, ℕ, ◌/◌, length}
 use Rattle.grammar.specs.Bytes.{Bytes, text}
 use Rattle.number.specs.Digits.{print_int}
 use Rattle.spelling.specs.Written.{escape, print_decimal}
 use Rattle.value.specs.declared.text.Span.{Span}
 use Rattle.table.specs.Table.{Row, Form, words, some_words, whole, guid, version, positive, features, rows_of}
 use Rattle.table.specs.Says.{refusal_in}
-use Rattle.message.specs.Cells.{is_there, field_by, features_by, fields_from}
+use Rattle.message.specs.Cells.{is_there, bit, field_by, fields_from}
 use Rattle.meant.specs.Meant.{text_at, meant_by, meant_of, first_in}
 use Rattle.meant.specs.Written.{attribute_of, attributes_of, empty_tag, features_inside, child_of, children_of, written_by}
 use Rattle.meant.specs.Writes.{answer_by, buffer_by}
@@ -62,7 +62,7 @@ unfoldable pub flagged : ℕ → Bytes → Bytes
 flagged there n = cond (is_there there) (empty_tag n) []
 
 unfoldable pub features_in : ℕ → Bytes
-features_in bits = features_inside (features_by 1 bits)
+features_in bits = features_inside (record { forecast = bit bits; query = bit (bits / 2); send = bit (bits / 4) })
 
 -- what writing a message of cells promises
 pub record CellsWritten (k : ℕ) (cells : List ℕ) (id texts old new : Bytes) (r : Written) : Type 0 where

@@ -1,4 +1,5 @@
 -- The Id of a CheckAlive, asked for with a scratch of 80 bytes, and what is replied.
+use Rattle.std.specs.Prelude.{Option, Some}
 use mathlib.Core.Path.{◌≡◌, refl, sym, ap, subst, ◌∙◌}
 use mathlib.Core.List.{List, [], ◌∷◌}
 use mathlib.Core.Bool.{Bool, true, false}
@@ -18,8 +19,6 @@ use Rattle.value.proofs.Only.{paper_injective}
 use Rattle.value.specs.Parts.{part_at, Lies}
 use Rattle.value.proofs.AskedLaws.{in_message_lem, in_scratch_lem}
 use Rattle.value.specs.declared.text.Span.{Span}
-use Rattle.value.specs.declared.text.Words.{Words}
-use Rattle.value.specs.declared.text.Words.TheVariants.{Present}
 use Rattle.value.specs.declared.text.TextAt.{TextAt}
 use Rattle.value.specs.declared.text.TextAt.TheVariants.{InMessage, InScratch}
 use Rattle.meant.specs.Written.{written_of}
@@ -31,7 +30,7 @@ use Rattle.meant.specs.Replies.{same_of, bare_of, same_id_case, no_id_case, Repl
 use Rattle.written_back.proofs.ReplyLaws.{bare_bytes, same_bytes}
 
 -- what is known of the Id by the number that was said of it
-module _ {s : Bytes} {w : Words} {room scratch : Bytes} (at : TextAt) {k : ℕ} (says : TextSays s w room scratch (paper at)) (said : k ≡ refusal_of at) where
+module _ {s : Bytes} {w : Option Span} {room scratch : Bytes} (at : TextAt) {k : ℕ} (says : TextSays s w room scratch (paper at)) (said : k ≡ refusal_of at) where
   number_of_lem : {t : Told} → paper at ≡ t → k ≡ t.number
   unfolding refusal_of
   number_of_lem e = said ∙ ap (λ (t : Told). t.number) e
@@ -64,7 +63,7 @@ module _ {s : Bytes} {w : Words} {room scratch : Bytes} (at : TextAt) {k : ℕ} 
       not-six : {X : Type 0} {t : Told} → paper at ≡ t → t.number ≡ 0 → X
       not-six e f = absurd (let z = sym h ∙ number_of_lem e ∙ f in omega arith)
 
-      of : (p : Span) → w ≡ Present p → p.start + p.len ≤ length s → Answer (take p.len (drop p.start s)) p room scratch (paper at) → Replies s w old old (refused_by 6)
+      of : (p : Span) → w ≡ Some p → p.start + p.len ≤ length s → Answer (take p.len (drop p.start s)) p room scratch (paper at) → Replies s w old old (refused_by 6)
       of p e l (no_value n f g) = no_text p e l n refl refl
       of p e l (stands v t a f g) = not-six f refl
       of p e l (no_room_case v t a m f g) = no_number_lem 7 f h (λ z. omega arith)
@@ -82,7 +81,7 @@ module _ {s : Bytes} {w : Words} {room scratch : Bytes} (at : TextAt) {k : ℕ} 
       not-zero : {X : Type 0} {t : Told} → paper at ≡ t → t.number ≡ 0 → X
       not-zero e f = absurd (u.0.0.1 (number_of_lem e ∙ f))
 
-      of : (p : Span) → w ≡ Present p → p.start + p.len ≤ length s → Answer (take p.len (drop p.start s)) p room scratch (paper at) → Replies s w old old (refused_by 5)
+      of : (p : Span) → w ≡ Some p → p.start + p.len ≤ length s → Answer (take p.len (drop p.start s)) p room scratch (paper at) → Replies s w old old (refused_by 5)
       of p e l (no_value n f g) = absurd (u.1 (number_of_lem f))
       of p e l (stands v t a f g) = not-zero f refl
       of p e l (no_room_case v t a m f g) = too_long p e l v t (omega arith) refl refl
@@ -95,7 +94,7 @@ module _ {s : Bytes} {w : Words} {room scratch : Bytes} (at : TextAt) {k : ℕ} 
 
   -- 0: the part that was handed out is the text
   module _ (a b : ℕ × ℕ) {part : Bor (List ℕ)} (lies : Lies (part_at a s b scratch at) part) where
-    with_text : {old new : Bytes} {r : Written} (p : Span) → w ≡ Present p → p.start + p.len ≤ length s → (v : Bytes) → Text (take p.len (drop p.start s)) v → part.now ≡ v → SameReply part.now old new r → Replies s w old new r
+    with_text : {old new : Bytes} {r : Written} (p : Span) → w ≡ Some p → p.start + p.len ≤ length s → (v : Bytes) → Text (take p.len (drop p.start s)) v → part.now ≡ v → SameReply part.now old new r → Replies s w old new r
     with_text {old} {new} {r} p e l v t q x = by (subst (λ (y : Bytes). SameReply y old new r) q x) (leb (length v) 80) refl
       where
         by : SameReply v old new r → (z : Bool) → leb (length v) 80 ≡ z → Replies s w old new r
@@ -107,7 +106,7 @@ module _ {s : Bytes} {w : Words} {room scratch : Bytes} (at : TextAt) {k : ℕ} 
     pub says_text : {old new : Bytes} {r : Written} → k ≡ 0 → SameReply part.now old new r → Replies s w old new r
     says_text {old} {new} {r} h x = go says
       where
-        of : (p : Span) → w ≡ Present p → p.start + p.len ≤ length s → Answer (take p.len (drop p.start s)) p room scratch (paper at) → Replies s w old new r
+        of : (p : Span) → w ≡ Some p → p.start + p.len ≤ length s → Answer (take p.len (drop p.start s)) p room scratch (paper at) → Replies s w old new r
         of p e l (no_value n f g) = no_number_lem 6 f h (λ z. omega arith)
         of p e l (stands v t y f g) = with_text p e l v t (in_message_lem s scratch at a b lies p (paper_injective at (InMessage p) f) l ∙ sym ((raw_as_read_iff t).0 y)) x
         of p e l (no_room_case v t y m f g) = no_number_lem 7 f h (λ z. omega arith)

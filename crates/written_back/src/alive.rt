@@ -5,7 +5,7 @@ ghost use Rattle.written_back.specs.Framed.{bare_reply, SameReply};
 
 use crate::framed::framed;
 use meant::Written;
-use value::Words;
+use value::Span;
 
 // Without an Id.
 fn reply_bare(out: &mut [u8]) -> Written
@@ -34,7 +34,7 @@ fn reply_with(v: &[u8], out: &mut [u8]) -> Written
 
 /// The reply to a CheckAlive, first in the buffer: Type 2 and the same Id, which is the value `id` of the message s. 5 if it reads as more
 /// than 80 bytes, 6 if it is no text of s, 7 if the reply does not fit; then nothing is written.
-pub fn reply(s: &[u8], id: Words, out: &mut [u8]) -> Written
+pub fn reply(s: &[u8], id: Option<Span>, out: &mut [u8]) -> Written
     ensures { Replies s.now id out.old out.new result }
 {
     let mut scratch = [0u8; 80];

@@ -3,8 +3,8 @@ use Rattle.why.proofs.ReasonLaws.{absent_told, present_told}
 use Rattle.why.proofs.why_line.Goals as goal
 
 -- By whether the value is there.
-pub returns-in-Absent : goal.returns-in-Absent
-returns-in-Absent c = absent_told c.args.base c.args.d c.in-Absent.is c.reason.ensures
+pub returns-in-None : goal.returns-in-None
+returns-in-None c = absent_told c.args.base c.args.d c.in-None.is c.reason.ensures
 
-pub returns-in-Present : goal.returns-in-Present
-returns-in-Present c = present_told c.args.base c.args.d c.in-Present.p c.in-Present.is c.counted.ensures c.reason-in-Present.ensures
+pub returns-in-Some : goal.returns-in-Some
+returns-in-Some c = present_told c.args.base c.args.d c.in-Some.p c.in-Some.is c.counted.ensures c.reason-in-Some.ensures

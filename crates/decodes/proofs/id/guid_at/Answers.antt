@@ -7,4 +7,4 @@ pub returns-then-is_guid : goal.returns-then-is_guid
 returns-then-is_guid c = guid_stands _ c.is_guid.ensures c.if-is_guid.true
 
 pub returns : goal.returns
-returns c = guid_there c.id_at-g.ensures
+returns c = rw c.is_some.ensures (guid_there c.id_at.ensures)

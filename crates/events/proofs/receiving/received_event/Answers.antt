@@ -3,9 +3,9 @@ use Rattle.events.proofs.NameLaws.{got_none, got_one}
 use Rattle.events.proofs.receiving.received_event.Goals as goal
 
 -- src/receiving.rt:23:1
-pub returns-in-Absent : goal.returns-in-Absent
-returns-in-Absent c = got_none c.forecast_words.ensures c.in-Absent.is
+pub returns-in-None : goal.returns-in-None
+returns-in-None c = got_none c.forecast_words.ensures c.in-None.is
 
 -- src/receiving.rt:23:1
-pub returns-in-Present : goal.returns-in-Present
-returns-in-Present c = got_one c.forecast_words.ensures c.in-Present.p c.in-Present.is c.read_at.ensures c.requires
+pub returns-in-Some : goal.returns-in-Some
+returns-in-Some c = got_one c.forecast_words.ensures c.in-Some.p c.in-Some.is c.read_at.ensures c.requires

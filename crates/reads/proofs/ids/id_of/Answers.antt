@@ -11,4 +11,4 @@ pub returns-then-is_clear : goal.returns-then-is_clear
 returns-then-is_clear c = clear_id (c.is_clear.ensures c.if-is_clear.true).1 c.copied.ensures
 
 pub returns : goal.returns
-returns c = read_id c.id_at-g.ensures
+returns c = rw c.unwrap_or.ensures (read_id c.id_at.ensures)

@@ -12,10 +12,10 @@ pub returns-in_default : goal.returns-in_default
 returns-in_default c = absent_rowed c.args.features c.args.row c.if-row-eq0.false c.name_at-name.ensures c.find.ensures c.in_default.is (c.from-in_default.ensures ∙ c.missing.ensures)
 
 pub overflow_add-raw : goal.overflow_add-raw
-overflow_add-raw c = let z = found_inside c.find.ensures c.args.attributes.now.held c.in-Present.place c.in-Present.is in omega arith
+overflow_add-raw c = let z = found_inside c.find.ensures c.args.attributes.now.held c.in-Some.place c.in-Some.is in omega arith
 
 pub slice_bounds-raw-end : goal.slice_bounds-raw-end
-slice_bounds-raw-end c = let z = found_inside c.find.ensures c.args.attributes.now.held c.in-Present.place c.in-Present.is in omega arith
+slice_bounds-raw-end c = let z = found_inside c.find.ensures c.args.attributes.now.held c.in-Some.place c.in-Some.is in omega arith
 
 pub returns : goal.returns
-returns c = present_rowed c.args.features c.args.row c.if-row-eq0.false c.name_at-name.ensures c.find.ensures c.in-Present.place (found_inside c.find.ensures c.args.attributes.now.held c.in-Present.place c.in-Present.is) c.in-Present.is c.judged.ensures
+returns c = present_rowed c.args.features c.args.row c.if-row-eq0.false c.name_at-name.ensures c.find.ensures c.in-Some.place (found_inside c.find.ensures c.args.attributes.now.held c.in-Some.place c.in-Some.is) c.in-Some.is c.judged.ensures

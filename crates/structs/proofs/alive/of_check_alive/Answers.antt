@@ -1,6 +1,5 @@
 -- Field by field.
 use mathlib.Core.Path.{refl}
-use lib.Dec.{lit≤}
 use Rattle.lane.specs.Names.{CheckAlive}
 use Rattle.structs.specs.Celled.{all_laid}
 use Rattle.structs.specs.Alive.{alive_fields}
@@ -10,10 +9,4 @@ use Rattle.structs.proofs.alive.of_check_alive.Goals as goal
 -- Field by field.
 pub returns : goal.returns
 unfolding all_laid alive_fields
-returns c = message_laid CheckAlive (alive_fields c.args.v) (rw (c.put_words-cells.ensures, c.put_whole-cells.ensures)) refl
-
-pub put_whole-cells-requires : goal.put_whole-cells-requires
-put_whole-cells-requires c = lit≤ tt
-
-pub put_words-cells-requires : goal.put_words-cells-requires
-put_words-cells-requires c = lit≤ tt
+returns c = message_laid CheckAlive (alive_fields c.args.v) (rw (c.put-cells-2.ensures, c.put-cells.ensures)) refl

@@ -5,4 +5,4 @@ use Rattle.structs.proofs.board_part.board_at.Goals as goal
 -- Field by field.
 pub returns : goal.returns
 unfolding part_at
-returns c = rw (c.whole.ensures, c.words.ensures, c.whole-2.ensures, c.words-2.ensures, c.words-3.ensures, c.measure.ensures, c.measure-2.ensures, c.measure-3.ensures, c.measure-4.ensures, c.measure-5.ensures, c.measure-6.ensures, c.measure-7.ensures, c.words-4.ensures)
+returns c = rw (c.at.ensures, c.at-2.ensures, c.at-3.ensures, c.at-4.ensures, c.at-5.ensures, c.at-6.ensures, c.at-7.ensures, c.at-8.ensures, c.at-9.ensures, c.at-10.ensures, c.at-11.ensures, c.at-12.ensures, c.at-13.ensures)

@@ -7,4 +7,4 @@ use Rattle.structs.proofs.board_part.put_board.Goals as goal
 -- Field by field.
 pub returns : goal.returns
 unfolding part_fields
-returns c = rw (c.put_words.ensures, c.put_measure-cells-7.ensures, c.put_measure-cells-6.ensures, c.put_measure-cells-5.ensures, c.put_measure-cells-4.ensures, c.put_measure-cells-3.ensures, c.put_measure-cells-2.ensures, c.put_measure-cells.ensures, c.put_words-cells-3.ensures, c.put_words-cells-2.ensures, c.put_whole-cells-2.ensures, c.put_words-cells.ensures, c.put_whole-cells.ensures) (sym (laid_from_lem c.args.i (part_fields c.args.b) c.args.cells))
+returns c = rw (c.put.ensures, c.put-cells-12.ensures, c.put-cells-11.ensures, c.put-cells-10.ensures, c.put-cells-9.ensures, c.put-cells-8.ensures, c.put-cells-7.ensures, c.put-cells-6.ensures, c.put-cells-5.ensures, c.put-cells-4.ensures, c.put-cells-3.ensures, c.put-cells-2.ensures, c.put-cells.ensures) (sym (laid_from_lem c.args.i (part_fields c.args.b) c.args.cells))

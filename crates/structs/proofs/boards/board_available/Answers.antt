@@ -1,7 +1,6 @@
 -- Field by field.
 use mathlib.Core.Path.{◌≡◌, refl}
 use mathlib.Core.List.{[]}
-use lib.Dec.{lit≤}
 use Rattle.grammar.specs.Bytes.{Bytes}
 use Rattle.lane.specs.Names.{BoardAvailable}
 use Rattle.table.specs.Table.{table, rows_of}
@@ -21,20 +20,5 @@ none id = refl
 pub returns : goal.returns
 unfolding table board_from part_from part_at fields_from field_by
 returns c =
-    rw (c.guid.ensures, c.words.ensures, c.board_at.ensures, c.whole.ensures, c.words-2.ensures)
+    rw (c.id_at.ensures, c.at.ensures, c.board_at.ensures, c.at-2.ensures, c.at-3.ensures)
     (made_of board_from BoardAvailable c.args.m none c.cells_if-cells.ensures)
-
-pub guid-requires : goal.guid-requires
-guid-requires c = lit≤ tt
-
-pub words-requires : goal.words-requires
-words-requires c = lit≤ tt
-
-pub board_at-requires : goal.board_at-requires
-board_at-requires c = lit≤ tt
-
-pub whole-requires : goal.whole-requires
-whole-requires c = lit≤ tt
-
-pub words-requires-2 : goal.words-requires-2
-words-requires-2 c = lit≤ tt

@@ -1,7 +1,6 @@
 -- Field by field.
 use mathlib.Core.Path.{◌≡◌, refl}
 use mathlib.Core.List.{[]}
-use lib.Dec.{lit≤}
 use Rattle.grammar.specs.Bytes.{Bytes}
 use Rattle.lane.specs.Names.{BoardForecast}
 use Rattle.table.specs.Table.{table, rows_of}
@@ -21,20 +20,5 @@ none id = refl
 pub returns : goal.returns
 unfolding table forecast_from part_from part_at fields_from field_by
 returns c =
-    rw (c.words.ensures, c.measure.ensures, c.guid.ensures, c.words-2.ensures, c.board_at.ensures)
+    rw (c.at.ensures, c.at-2.ensures, c.id_at.ensures, c.at-3.ensures, c.board_at.ensures)
     (made_of forecast_from BoardForecast c.args.m none c.cells_if-cells.ensures)
-
-pub words-requires : goal.words-requires
-words-requires c = lit≤ tt
-
-pub measure-requires : goal.measure-requires
-measure-requires c = lit≤ tt
-
-pub guid-requires : goal.guid-requires
-guid-requires c = lit≤ tt
-
-pub words-requires-2 : goal.words-requires-2
-words-requires-2 c = lit≤ tt
-
-pub board_at-requires : goal.board_at-requires
-board_at-requires c = lit≤ tt

@@ -1,7 +1,6 @@
 -- Field by field.
 use mathlib.Core.Path.{◌≡◌, refl}
 use mathlib.Core.List.{[]}
-use lib.Dec.{lit≤}
 use Rattle.grammar.specs.Bytes.{Bytes}
 use Rattle.lane.specs.Names.{Notification}
 use Rattle.table.specs.Table.{table, rows_of}
@@ -19,13 +18,4 @@ none id = refl
 
 pub returns : goal.returns
 unfolding table notice_from fields_from field_by
-returns c = rw (c.whole.ensures, c.whole-2.ensures, c.words.ensures) (made_of notice_from Notification c.args.m none c.cells_if-cells.ensures)
-
-pub whole-requires : goal.whole-requires
-whole-requires c = lit≤ tt
-
-pub whole-requires-2 : goal.whole-requires-2
-whole-requires-2 c = lit≤ tt
-
-pub words-requires : goal.words-requires
-words-requires c = lit≤ tt
+returns c = rw (c.at.ensures, c.at-2.ensures, c.at-3.ensures) (made_of notice_from Notification c.args.m none c.cells_if-cells.ensures)

@@ -1,7 +1,6 @@
 -- Field by field.
 use mathlib.Core.Path.{◌≡◌, refl}
 use mathlib.Core.List.{[]}
-use lib.Dec.{lit≤}
 use Rattle.grammar.specs.Bytes.{Bytes}
 use Rattle.lane.specs.Names.{MachineReady}
 use Rattle.table.specs.Table.{table, rows_of}
@@ -19,10 +18,4 @@ none id = refl
 
 pub returns : goal.returns
 unfolding table ready_from fields_from field_by
-returns c = rw (c.whole.ensures, c.words.ensures) (made_of ready_from MachineReady c.args.m none c.cells_if-cells.ensures)
-
-pub whole-requires : goal.whole-requires
-whole-requires c = lit≤ tt
-
-pub words-requires : goal.words-requires
-words-requires c = lit≤ tt
+returns c = rw (c.at.ensures, c.at-2.ensures) (made_of ready_from MachineReady c.args.m none c.cells_if-cells.ensures)

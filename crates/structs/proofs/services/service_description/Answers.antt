@@ -1,7 +1,6 @@
 -- Field by field.
 use mathlib.Core.Path.{◌≡◌, refl}
 use mathlib.Core.List.{[]}
-use lib.Dec.{lit≤}
 use Rattle.grammar.specs.Bytes.{Bytes}
 use Rattle.lane.specs.Names.{ServiceDescription}
 use Rattle.table.specs.Table.{table, rows_of}
@@ -19,16 +18,4 @@ none id = refl
 
 pub returns : goal.returns
 unfolding table service_from fields_from field_by
-returns c = rw (c.words.ensures, c.whole.ensures, c.words-2.ensures, c.features.ensures) (made_of service_from ServiceDescription c.args.m none c.cells_if-cells.ensures)
-
-pub words-requires : goal.words-requires
-words-requires c = lit≤ tt
-
-pub whole-requires : goal.whole-requires
-whole-requires c = lit≤ tt
-
-pub words-requires-2 : goal.words-requires-2
-words-requires-2 c = lit≤ tt
-
-pub features-requires : goal.features-requires
-features-requires c = lit≤ tt
+returns c = rw (c.at.ensures, c.at-2.ensures, c.at-3.ensures, c.at-4.ensures) (made_of service_from ServiceDescription c.args.m none c.cells_if-cells.ensures)

@@ -1,5 +1,4 @@
 -- Field by field.
-use lib.Dec.{lit≤}
 use Rattle.lane.specs.Names.{StartTransport}
 use Rattle.structs.specs.Celled.{all_laid}
 use Rattle.structs.specs.Starts.{start_fields}
@@ -9,10 +8,4 @@ use Rattle.structs.proofs.starts.of_start_transport.Goals as goal
 -- Field by field.
 pub returns : goal.returns
 unfolding all_laid start_fields
-returns c = message_laid StartTransport (start_fields c.args.v) (rw (c.put_measure-cells.ensures, c.put_guid-cells.ensures)) c.bytes_in.ensures
-
-pub put_guid-cells-requires : goal.put_guid-cells-requires
-put_guid-cells-requires c = lit≤ tt
-
-pub put_measure-cells-requires : goal.put_measure-cells-requires
-put_measure-cells-requires c = lit≤ tt
+returns c = message_laid StartTransport (start_fields c.args.v) (rw (c.put-cells.ensures, c.put_id-cells.ensures)) c.bytes_in.ensures

@@ -1,7 +1,6 @@
 -- Field by field.
 use mathlib.Core.Path.{◌≡◌, refl}
 use mathlib.Core.List.{[]}
-use lib.Dec.{lit≤}
 use Rattle.grammar.specs.Bytes.{Bytes}
 use Rattle.lane.specs.Names.{StartTransport}
 use Rattle.table.specs.Table.{table, rows_of}
@@ -19,10 +18,4 @@ none id = refl
 
 pub returns : goal.returns
 unfolding table start_from fields_from field_by
-returns c = rw (c.guid.ensures, c.measure.ensures) (made_of start_from StartTransport c.args.m none c.cells_if-cells.ensures)
-
-pub guid-requires : goal.guid-requires
-guid-requires c = lit≤ tt
-
-pub measure-requires : goal.measure-requires
-measure-requires c = lit≤ tt
+returns c = rw (c.id_at.ensures, c.at.ensures) (made_of start_from StartTransport c.args.m none c.cells_if-cells.ensures)

@@ -32,10 +32,4 @@ either m = go (eqb m.kind StopTransport) refl
 
 pub returns : goal.returns
 unfolding table transfer_from fields_from field_by
-returns c = rw (c.whole.ensures, c.guid.ensures) (made_if transfer_from StopTransport c.args.m none c.cells_if-cells.ensures (either c.args.m))
-
-pub whole-requires : goal.whole-requires
-whole-requires c = lit≤ tt
-
-pub guid-requires : goal.guid-requires
-guid-requires c = lit≤ tt
+returns c = rw (c.at.ensures, c.id_at.ensures) (made_if transfer_from StopTransport c.args.m none c.cells_if-cells.ensures (either c.args.m))

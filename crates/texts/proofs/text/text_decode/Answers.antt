@@ -8,10 +8,10 @@ pub returns-in_default : goal.returns-in_default
 returns-in_default c = text_absent _ _ c.in_default.is
 
 pub returns-then-msg-start : goal.returns-then-msg-start
-returns-then-msg-start c = text_outside _ _ _ c.in-Present.is (omega arith)
+returns-then-msg-start c = text_outside _ _ _ c.in-Some.is (omega arith)
 
 pub returns-then-msg-start-2 : goal.returns-then-msg-start-2
-returns-then-msg-start-2 c = text_outside _ _ _ c.in-Present.is (omega arith)
+returns-then-msg-start-2 c = text_outside _ _ _ c.in-Some.is (omega arith)
 
 pub returns : goal.returns
-returns c = text_there _ _ _ c.in-Present.is (omega arith) c.text_of.ensures
+returns c = text_there _ _ _ c.in-Some.is (omega arith) c.text_of.ensures

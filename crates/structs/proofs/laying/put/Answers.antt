@@ -1,8 +1,0 @@
--- Three numbers.
-use native.Mathlib.Omega.{arith}
-use Rattle.structs.proofs.LayLaws.{put_three}
-use Rattle.structs.proofs.laying.put.Goals as goal
-
--- Three numbers.
-pub returns : goal.returns
-returns c = put_three c.args.cells c.args.i c.args.there c.args.a c.args.b (omega arith)
