@@ -33,7 +33,7 @@ first_refused i (r ∷ l) place t = ruled_by (refusal_in (tried r t)) i (value_i
 
 -- of an element of kind k, by what rules
 abbrev pub decided_by : ℕ → Option Ruling → Decision
-decided_by k None = record { refusal = 0; kind = k; row = 0; value = Absent }
+decided_by k None = record { refusal = 0; kind = k; row = 0; value = None }
 decided_by k (Some x) = record { refusal = x.refusal; kind = k; row = x.row; value = x.value }
 
 -- an answer without a message: 1, 2 or 3

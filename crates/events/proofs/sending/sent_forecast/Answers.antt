@@ -7,4 +7,4 @@ pub returns-in_default : goal.returns-in_default
 returns-in_default c = sends_none c.forecast_words.ensures c.in_default.is
 
 pub returns : goal.returns
-returns c = sends_one c.forecast_words.ensures c.in-Present.p c.in-Present.is (omega arith) (omega arith) c.kept.ensures
+returns c = sends_one c.forecast_words.ensures c.in-Some.p c.in-Some.is (omega arith) (omega arith) c.kept.ensures
