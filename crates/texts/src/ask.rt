@@ -18,7 +18,12 @@ pub fn refusal_of(at: TextAt) -> u8
 }
 
 /// The text of the value t of the message, and the number that is said. The scratch is spent: nothing is said of what it holds afterwards.
-pub fn ask_text<'a>(msg: &'a [u8], t: Option<Span>, scratch: &'a mut [u8], refusal: &mut u8) -> &'a [u8]
+pub fn ask_text<'a>(
+    msg: &'a [u8],
+    t: Option<Span>,
+    scratch: &'a mut [u8],
+    refusal: &mut u8,
+) -> &'a [u8]
     ensures { Asked msg.entry.ref_ptr msg.now t scratch.entry.ref_ptr scratch.old refusal.new result }
 {
     let at = text_decode(msg, t, scratch);
