@@ -21,7 +21,8 @@ use Rattle.grammar.specs.Bytes.{Bytes, every, non_empty}
 use Rattle.grammar.specs.Glue.{is_glue}
 use Rattle.grammar.specs.Name.{name_start, name_byte, shaped}
 use Rattle.scan.specs.Pieces.{Got, GotTok, Walked, Skipped, byte_p, word_p, glue_tok, name_tok}
-use Rattle.scan.specs.declared.Step.TheVariants.{Done, Open, Bad}
+use Rattle.std.specs.Prelude.{Ok, Err}
+use Rattle.scan.specs.declared.Stop.TheVariants.{Open, Bad}
 
 module _ (pre ok : Bytes → Bool) (s : Bytes) (at : ℕ) where
   pub walked_start : at ≤ length s → pre [] ≡ true → Walked pre ok s at at
@@ -62,11 +63,11 @@ module _ (s : Bytes) (at : ℕ) where
   pub glue_next : (i : ℕ) → Walked (every is_glue) always s at i → i < length s → is_glue (get_or s i 0) ≡ true → Walked (every is_glue) always s at (i + 1)
   glue_next i w h b = walked_next (every is_glue) always s at i w h (every_append is_glue (take (i - at) (drop at s)) (get_or s i 0 ∷ []) w.begun (rw b))
 
-  pub glue_open : (i : ℕ) → Skipped s at i → length s ≤ i → GotTok 0 s at Open (glue_tok (drop at s))
+  pub glue_open : (i : ℕ) → Skipped s at i → length s ≤ i → GotTok 0 s at (Err Open) (glue_tok (drop at s))
   unfolding glue_tok
   glue_open i k h = record { says = walked_more (every is_glue) always s at i k.walked h }
 
-  pub glue_done : (i : ℕ) → Skipped s at i → i < length s → GotTok 0 s at (Done i) (glue_tok (drop at s))
+  pub glue_done : (i : ℕ) → Skipped s at i → i < length s → GotTok 0 s at (Ok i) (glue_tok (drop at s))
   unfolding glue_tok
   glue_done i k h =
       let f = k.walked.from in
@@ -97,12 +98,12 @@ live_full n b h = rw (lt-leb (length (n ++ b ∷ [])) 64 (rw length-append (omeg
     go false = refl
 
 module _ (s : Bytes) (at : ℕ) where
-  pub name_open : length s ≤ at → GotTok 1 s at Open (name_tok (drop at s))
+  pub name_open : length s ≤ at → GotTok 1 s at (Err Open) (name_tok (drop at s))
   unfolding name_tok
   name_open h = record { says = rw (drop_of_length-le s h) }
 
   module _ (h : at < length s) where
-    pub name_bad : name_start (get_or s at 0) ≡ false → GotTok 1 s at (Bad at) (name_tok (drop at s))
+    pub name_bad : name_start (get_or s at 0) ≡ false → GotTok 1 s at (Err (Bad at)) (name_tok (drop at s))
     unfolding name_tok new live
     name_bad f = record { says = (omega arith, h, rw (drop-cons s at 0 h, f)) }
 
@@ -113,7 +114,7 @@ module _ (s : Bytes) (at : ℕ) where
         walked_next (live []) (new []) s at at (walked_start (live []) (new []) s at (omega arith) refl) h (rw (z, f))
 
   module _ (i : ℕ) (w : Walked (live []) (new []) s at i) (g : at < i) where
-    pub name_more : length s ≤ i → GotTok 1 s at Open (name_tok (drop at s))
+    pub name_more : length s ≤ i → GotTok 1 s at (Err Open) (name_tok (drop at s))
     unfolding name_tok
     name_more h = record { says = walked_more (live []) (new []) s at i w h }
 
@@ -121,28 +122,28 @@ module _ (s : Bytes) (at : ℕ) where
       pub name-next : name_byte (get_or s i 0) ≡ true → i - at < 64 → Walked (live []) (new []) s at (i + 1)
       name-next f k = let l = part_length (live []) (new []) s at i w h in walked_next (live []) (new []) s at i w h (live_snoc (take (i - at) (drop at s)) (get_or s i 0) w.begun (omega arith) (omega arith) f)
 
-      stops : live [] (take (i - at) (drop at s) ++ (get_or s i 0 ∷ [])) ≡ false → GotTok 1 s at (Done i) (name_tok (drop at s))
+      stops : live [] (take (i - at) (drop at s) ++ (get_or s i 0 ∷ [])) ≡ false → GotTok 1 s at (Ok i) (name_tok (drop at s))
       unfolding name_tok
       stops b = let l = part_length (live []) (new []) s at i w h in record { says = (omega arith, h, walked_stop (live []) (new []) s at i w h b (new_some (take (i - at) (drop at s)) (omega arith))) }
 
-      pub name_done : name_byte (get_or s i 0) ≡ false → GotTok 1 s at (Done i) (name_tok (drop at s))
+      pub name_done : name_byte (get_or s i 0) ≡ false → GotTok 1 s at (Ok i) (name_tok (drop at s))
       name_done f = stops (live_shut [] (take (i - at) (drop at s)) (get_or s i 0) f)
 
-      pub name-full : 64 ≤ i - at → GotTok 1 s at (Done i) (name_tok (drop at s))
+      pub name-full : 64 ≤ i - at → GotTok 1 s at (Ok i) (name_tok (drop at s))
       name-full k = let l = part_length (live []) (new []) s at i w h in stops (live_full (take (i - at) (drop at s)) (get_or s i 0) (omega arith))
 
 -- one byte
 module _ (s : Bytes) (at b : ℕ) where
-  pub byte_end : length s ≤ at → Got 1 s at Open (byte_p b (drop at s))
+  pub byte_end : length s ≤ at → Got 1 s at (Err Open) (byte_p b (drop at s))
   unfolding byte_p
   byte_end h = record { says = rw (drop_of_length-le s h) }
 
   module _ (h : at < length s) where
-    pub byte_hit : get_or s at 0 ≡ b → Got 1 s at (Done (at + 1)) (byte_p b (drop at s))
+    pub byte_hit : get_or s at 0 ≡ b → Got 1 s at (Ok (at + 1)) (byte_p b (drop at s))
     unfolding byte_p
     byte_hit e = record { says = (0, omega arith, omega arith, rw (add-one, drop-cons s at 0 h, eq-eqb b (get_or s at 0) (sym e))) }
 
-    pub byte_miss : (get_or s at 0 ≡ b → ⊥) → Got 1 s at (Bad at) (byte_p b (drop at s))
+    pub byte_miss : (get_or s at 0 ≡ b → ⊥) → Got 1 s at (Err (Bad at)) (byte_p b (drop at s))
     unfolding byte_p
     byte_miss e = record { says = (omega arith, h, rw (drop-cons s at 0 h, ne_eqb b (get_or s at 0) (λ q. e (sym q)))) }
 

@@ -1,5 +1,5 @@
 -- What an answer says of a model at a place.
-use Rattle.std.specs.Prelude.{◌≡◌, [], ◌∷◌, Bool, true, false, ℕ, ◌+◌, ◌-◌, ◌≤◌, ◌<◌, length, take, drop, get_or}
+use Rattle.std.specs.Prelude.{◌≡◌, [], ◌∷◌, Bool, true, false, ℕ, ◌+◌, ◌-◌, ◌≤◌, ◌<◌, length, take, drop, get_or, Result, Ok, Err}
 use Rattle.model.specs.Glue.{always}
 use Rattle.model.specs.Names.{live, new}
 use Rattle.exact.specs.Exact.{Out, done, more, bad, Reader}
@@ -8,23 +8,30 @@ use Rattle.exact.specs.Byte.{lit_p}
 use Rattle.exact.specs.Token.{token_p}
 use Rattle.grammar.specs.Bytes.{Bytes, every}
 use Rattle.grammar.specs.Glue.{is_glue}
-use Rattle.scan.specs.declared.Step.{Step}
-use Rattle.scan.specs.declared.Step.TheVariants.{Done, Open, Bad}
+use Rattle.scan.specs.declared.Stop.{Stop}
+use Rattle.scan.specs.declared.Stop.TheVariants.{Open, Bad}
+
+-- the next place, or why there is none
+abbrev pub Step : Type 0
+Step = Result ℕ Stop
+
+-- what an outcome is where reading stopped
+abbrev pub StopCase : {A : Type 0} → Bytes → ℕ → Stop → Out A → Type 0
+StopCase s at Open o = o ≡ more
+StopCase s at (Bad p) o = (at ≤ p) × (p < length s) × (o ≡ bad (drop p s))
 
 -- what an answer says of an outcome: at least k bytes are read
 abbrev pub GotCase : {A : Type 0} → ℕ → Bytes → ℕ → Step → Out A → Type 0
-GotCase {A} k s at (Done e) o = (v : A) × (at + k ≤ e) × (e ≤ length s) × (o ≡ done v (drop e s))
-GotCase k s at Open o = o ≡ more
-GotCase k s at (Bad p) o = (at ≤ p) × (p < length s) × (o ≡ bad (drop p s))
+GotCase {A} k s at (Ok e) o = (v : A) × (at + k ≤ e) × (e ≤ length s) × (o ≡ done v (drop e s))
+GotCase k s at (Err x) o = StopCase s at x o
 
 pub record Got {A : Type 0} (k : ℕ) (s : Bytes) (at : ℕ) (r : Step) (o : Out A) : Type 0 where
   pub says : GotCase k s at r o
 
 -- a token is the bytes up to where it ends, and a byte stands behind it
 abbrev pub TokCase : ℕ → Bytes → ℕ → Step → Out Bytes → Type 0
-TokCase k s at (Done e) o = (at + k ≤ e) × (e < length s) × (o ≡ done (take (e - at) (drop at s)) (drop e s))
-TokCase k s at Open o = o ≡ more
-TokCase k s at (Bad p) o = (at ≤ p) × (p < length s) × (o ≡ bad (drop p s))
+TokCase k s at (Ok e) o = (at + k ≤ e) × (e < length s) × (o ≡ done (take (e - at) (drop at s)) (drop e s))
+TokCase k s at (Err x) o = StopCase s at x o
 
 pub record GotTok (k : ℕ) (s : Bytes) (at : ℕ) (r : Step) (o : Out Bytes) : Type 0 where
   pub says : TokCase k s at r o

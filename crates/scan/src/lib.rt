@@ -8,13 +8,15 @@ ghost use Rattle.scan.specs.Pieces.{Skipped, Got, GotTok, byte_p, word_p, glue_t
 
 use grammar::Limits;
 
-/// The next place; the input ended inside; the first byte after which nothing fits.
+/// Why reading stopped: the input ended inside; or the first byte after which nothing fits.
 #[derive(Clone, Copy)]
-pub enum Step {
-    Done(usize),
+pub enum Stop {
     Open,
     Bad(usize),
 }
+
+/// The next place, or why there is none.
+pub type Step = Result<usize, Stop>;
 
 /// Space, tab, CR or LF.
 pub fn is_glue(b: u8) -> bool
@@ -86,9 +88,9 @@ pub fn glue(s: &[u8], at: usize) -> Step
 {
     let i = skip_glue(s, at);
     if s.len() <= i {
-        return Step::Open;
+        return Err(Stop::Open);
     }
-    Step::Done(i)
+    Ok(i)
 }
 
 /// The byte b.
@@ -97,12 +99,12 @@ pub fn byte(s: &[u8], at: usize, b: u8) -> Step
     ensures { Got 1 s.now at result (byte_p b (drop at s.now)) }
 {
     if s.len() <= at {
-        return Step::Open;
+        return Err(Stop::Open);
     }
     if s[at] == b {
-        return Step::Done(at + 1);
+        return Ok(at + 1);
     }
-    Step::Bad(at)
+    Err(Stop::Bad(at))
 }
 
 /// A name, as long as it can be.
@@ -111,7 +113,7 @@ pub fn name(s: &[u8], at: usize) -> Step
     ensures { GotTok 1 s.now at result (name_tok (drop at s.now)) }
 {
     if s.len() <= at {
-        return Step::Open;
+        return Err(Stop::Open);
     }
     let b = s[at];
     if is_name_start(b) {
@@ -120,16 +122,16 @@ pub fn name(s: &[u8], at: usize) -> Step
             let b = s[i];
             if is_name_byte(b) {
                 if Limits::NAME <= i - at {
-                    return Step::Done(i);
+                    return Ok(i);
                 }
                 i += 1;
             } else {
-                return Step::Done(i);
+                return Ok(i);
             }
         }
-        return Step::Open;
+        return Err(Stop::Open);
     }
-    Step::Bad(at)
+    Err(Stop::Bad(at))
 }
 
 /// The bytes of word.
@@ -140,14 +142,14 @@ pub fn literal(s: &[u8], at: usize, word: &[u8]) -> Step
     let mut k = 0;
     while k < word.len() {
         if s.len() - at <= k {
-            return Step::Open;
+            return Err(Stop::Open);
         }
         if s[at + k] != word[k] {
-            return Step::Bad(at + k);
+            return Err(Stop::Bad(at + k));
         }
         k += 1;
     }
-    Step::Done(at + k)
+    Ok(at + k)
 }
 
 /// Glue and the byte b.
@@ -155,9 +157,6 @@ pub fn glued(s: &[u8], at: usize, b: u8) -> Step
     requires { at ≤ length s.now }
     ensures { Got 1 s.now at result (glued_p b (drop at s.now)) }
 {
-    let r = glue(s, at);
-    let Step::Done(a) = r else {
-        return r;
-    };
-    byte(s, a, b)
+    let i = glue(s, at)?;
+    byte(s, i, b)
 }
