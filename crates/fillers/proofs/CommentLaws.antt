@@ -1,6 +1,6 @@
 -- Characters and marks of a comment at places of a list.
 use mathlib.Core.Path.{◌≡◌, refl, sym, ap, subst, ◌∙◌}
-use mathlib.Core.List.{List, [], ◌∷◌}
+use mathlib.Core.List.{[], ◌∷◌}
 use mathlib.Core.Logic.{◌⊎◌, inl, inr}
 use mathlib.Core.Bool.{Bool, true, false}
 use Prim.Native.Nat.{ℕ, zero, suc, ◌+◌, ◌-◌, ◌≤◌, ◌<◌}
@@ -16,22 +16,21 @@ use Rattle.exact.specs.Byte.{pick}
 use Rattle.exact.specs.Loop.{again, stop, onward, loop_p}
 use Rattle.grammar.specs.Bytes.{Bytes, text, within}
 use Rattle.grammar.specs.Character.{is_char}
-use Rattle.grammar.specs.Comment.{Mark, mark, dash_mark}
+use Rattle.grammar.specs.Comment.{mark, dash_mark}
 use Rattle.grammar.specs.Value.{banned}
 use Rattle.model.specs.Tests.{and_left}
 use Rattle.model.specs.Characters.{plain_byte, char_p}
 use Rattle.model.specs.Comments.{is_dash, no_dash_p, MarkAcc, dash_p, mark_p, marks_p, comment_p}
 use Rattle.model.proofs.Comments.{marks_eq}
-use Rattle.scan.specs.Pieces.{Got as StepSays, byte_p, word_p, chained}
+use Rattle.std.specs.Prelude.{Ok, Err}
+use Rattle.scan.specs.Pieces.{Step, Got as StepSays, byte_p, word_p, chained}
 use Rattle.scan.specs.Unfold.{then_and}
-use Rattle.scan.proofs.Chain.{then_done, Fails as StepFails, pass as step-pass, last as step-last, moved as step-moved}
-use Rattle.scan.specs.declared.Step.{Step}
-use Rattle.scan.specs.declared.Step.TheVariants.{Done, Open as Unended}
-use Rattle.pieces.specs.Says.{Known, Says, step_of}
-use Rattle.pieces.proofs.Answers.{Fails, pass, moved, stepped}
+use Rattle.scan.proofs.Chain.{then_done, pass as step-pass, last as step-last, moved as step-moved}
+use Rattle.scan.specs.declared.Stop.{Stop}
+use Rattle.scan.specs.declared.Stop.TheVariants.{Open}
+use Rattle.pieces.specs.Says.{Piece, got, Known, Says}
+use Rattle.pieces.proofs.Answers.{moved, stepped}
 use Rattle.pieces.proofs.CharacterLaws.{plain_quote}
-use Rattle.pieces.specs.declared.Piece.{Piece}
-use Rattle.pieces.specs.declared.Piece.TheVariants.{Got, Open}
 use Rattle.fillers.specs.Fills.{PlainRun, PastDash}
 
 -- a plain byte is a character that is no `-`; so are `<` and `&`
@@ -88,14 +87,14 @@ module _ (s : Bytes) (at : ℕ) where
   abbrev CharSays : Piece → Type 0
   CharSays r = Says (λ (c : ℕ). c) 1 s at r (no_dash_p (drop at s))
 
-  pub char_open : length s ≤ at → CharSays Open
+  pub char_open : length s ≤ at → CharSays (Err Open)
   char_open h = record { says = ap no_dash_p (drop_of_length-le s h) ∙ no_dash_open }
 
   module _ (h : at < length s) where
-    pub char_lt : get_or s at 0 ≡ 60 → CharSays (Got 60 (at + 1))
+    pub char_lt : get_or s at 0 ≡ 60 → CharSays (got 60 (at + 1))
     char_lt e = record { says = record { value = 60; is = refl; far = omega arith; upto = omega arith; reads = rw (add-one, drop-cons s at 0 h, e) (lt_char (drop (suc at) s)) } }
 
-    pub char_amp : get_or s at 0 ≡ 38 → CharSays (Got 38 (at + 1))
+    pub char_amp : get_or s at 0 ≡ 38 → CharSays (got 38 (at + 1))
     char_amp e = record { says = record { value = 38; is = refl; far = omega arith; upto = omega arith; reads = rw (add-one, drop-cons s at 0 h, e) (amp_char (drop (suc at) s)) } }
 
     pub char_other : (get_or s at 0 ≡ 60 → ⊥) → (get_or s at 0 ≡ 38 → ⊥) → {r : Piece} → Says (λ (c : ℕ). c) 1 s at r (char_p (banned 45) (drop at s)) → CharSays r
@@ -168,7 +167,7 @@ module _ (s : Bytes) (at : ℕ) where
   marks_start = record { k = λ l. l; from = omega arith; same = refl }
 
   module _ (i : ℕ) (w : InMarks s at i) where
-    pub marks_end : length s ≤ i → MarksSay Unended
+    pub marks_end : length s ≤ i → MarksSay (Err Open)
     marks_end h = record { says = w.same ∙ ap (loop_p mark_p w.k) (drop_of_length-le s h) ∙ mark_end w.k }
 
     pub marks_ran : (j : ℕ) → PlainRun 45 s i j → InMarks s at j
@@ -182,10 +181,10 @@ module _ (s : Bytes) (at : ℕ) where
 
     -- at a byte, and behind a `-` that stands there
     module _ (h : i < length s) (c : ℕ) (d : PastDash s i c) where
-      pub marks-cut : length s ≤ c → MarksSay Unended
+      pub marks-cut : length s ≤ c → MarksSay (Err Open)
       marks-cut l = go d.says
         where
-          go : ((get_or s i 0 ≡ 45) × (c ≡ i + 1)) ⊎ ((get_or s i 0 ≡ 45 → ⊥) × (c ≡ i)) → MarksSay Unended
+          go : ((get_or s i 0 ≡ 45) × (c ≡ i + 1)) ⊎ ((get_or s i 0 ≡ 45 → ⊥) × (c ≡ i)) → MarksSay (Err Open)
           go (inl (e, q)) =
               let y : length s ≤ suc i = omega arith in
               let z : drop i s ≡ 45 ∷ [] = drop-cons s i 0 h ∙ rw (e, drop_of_length-le s y) in
@@ -219,12 +218,11 @@ module _ (s : Bytes) (at : ℕ) where
                   let y : loop_p mark_p w.k (drop c s) ≡ and_then (no_dash_p (drop c s)) (λ c u. loop_p mark_p (λ l. w.k (mark c ∷ l)) u) = rw (drop-cons s c 0 l) (mark_turn_lem w.k (get_or s c 0) (drop (suc c) s) f) in
                   ((λ c l. w.k (mark c ∷ l)), w.same ∙ ap (λ (n : ℕ). loop_p mark_p w.k (drop n s)) (sym q) ∙ y)
 
-          pub marks-fail : {p : Piece} {r : Step} → Fails p → r ≡ step_of p → Says (λ (c : ℕ). c) 1 s c p (no_dash_p (drop c s)) → MarksSay r
-          marks-fail {p} x e g =
+          pub marks-fail : {x : Stop} → Says (λ (c : ℕ). c) 1 s c (Err x) (no_dash_p (drop c s)) → MarksSay (Err x)
+          marks-fail g =
               let a = w.from in
               let b = past_from d in
-              let z : Says (λ (l : List Mark). 0) 1 s at p (marks_p (drop at s)) = pass x g (omega arith) (λ c u. loop_p mark_p (taken.0 c) u) taken.1 in
-              stepped e z
+              stepped g (omega arith) (λ c u. loop_p mark_p (taken.0 c) u) taken.1
 
           pub marks-next : {v e : ℕ} → Known (λ (c : ℕ). c) 1 s c v e (no_dash_p (drop c s)) → InMarks s at e
           marks-next g =
@@ -240,8 +238,8 @@ module _ (s : Bytes) (at : ℕ) where
   unfolding comment_p word_p
   comment_bind = then_and _ _
 
-  pub comment_fails : {n : ℕ} {r : Step} → StepFails r → StepSays n s at r (word_p (text "--") (drop at s)) → StepSays 1 s at r (comment_p (drop at s))
-  comment_fails f g = step-pass f g 1 at (omega arith) _ comment_bind
+  pub comment_fails : {n : ℕ} {x : Stop} → StepSays n s at (Err x) (word_p (text "--") (drop at s)) → StepSays 1 s at (Err x) (comment_p (drop at s))
+  comment_fails g = step-pass g 1 at (omega arith) _ comment_bind
 
-  pub comment_read : {n a : ℕ} → StepSays n s at (Done a) (word_p (text "--") (drop at s)) → {r : Step} → StepSays 1 s a r (marks_p (drop a s)) → StepSays 1 s at r (comment_p (drop at s))
+  pub comment_read : {n a : ℕ} → StepSays n s at (Ok a) (word_p (text "--") (drop at s)) → {r : Step} → StepSays 1 s a r (marks_p (drop a s)) → StepSays 1 s at r (comment_p (drop at s))
   comment_read g h = step-moved h 1 at (let z = g.says.1 in omega arith) (let z = g.says.1 in omega arith) (comment_bind ∙ then_done _ g.says.3)

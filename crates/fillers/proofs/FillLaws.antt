@@ -16,11 +16,12 @@ use Rattle.grammar.specs.Glue.{is_glue}
 use Rattle.grammar.specs.Filler.{Site, in_root, below_root, comment, Filler}
 use Rattle.model.specs.Comments.{comment_p}
 use Rattle.model.specs.Fillers.{text_p, FillAcc, added, peek_p}
-use Rattle.scan.specs.Pieces.{Got, Skipped, chained}
+use Rattle.std.specs.Prelude.{Ok, Err}
+use Rattle.scan.specs.Pieces.{Step, Got, Skipped, chained}
 use Rattle.scan.specs.Unfold.{then_and, and_and}
-use Rattle.scan.proofs.Chain.{then_done, then_more, then_bad, Fails, never, pass}
-use Rattle.scan.specs.declared.Step.{Step}
-use Rattle.scan.specs.declared.Step.TheVariants.{Done, Open, Bad}
+use Rattle.scan.proofs.Chain.{then_done, then_more, then_bad, pass}
+use Rattle.scan.specs.declared.Stop.{Stop}
+use Rattle.scan.specs.declared.Stop.TheVariants.{Open, Bad}
 use Rattle.fillers.specs.Fills.{site_of, fill_tok, GotFiller, TagAt, bits_p, calmly, GotGap}
 use Rattle.fillers.proofs.BitLaws.{bits_end, bits_text, bits_short, bits_stop, bits_comment, glue_run}
 
@@ -36,26 +37,26 @@ pub in_root_lem : {z : Bool} {s : Bytes} {at : ℕ} {r : Step} → z ≡ false �
 in_root_lem {s = s} {at = at} {r = r} e g = subst (λ (z : Bool). GotGap (site_of z) s at r) (sym e) g
 
 -- a gap that is known
-pub known_gap : {site : Site} {s : Bytes} {at j : ℕ} {r : Step} → r ≡ Done j → GotGap site s at r → GotGap site s at (Done j)
+pub known_gap : {site : Site} {s : Bytes} {at j : ℕ} {r : Step} → r ≡ Ok j → GotGap site s at r → GotGap site s at (Ok j)
 known_gap {site} {s} {at} e g = subst (λ (r : Step). GotGap site s at r) e g
 
 -- a gap: glue, then `<`, or below the root text
 module _ (s : Bytes) (at j : ℕ) (x : Skipped s at j) where
-  pub gap_open : (site : Site) → length s ≤ j → GotGap site s at Open
+  pub gap_open : (site : Site) → length s ≤ j → GotGap site s at (Err Open)
   gap_open site h = record { says = λ k. let (k', e) = glue_run site s at j x k in e ∙ ap (bits_p site (calmly k')) (drop_of_length-le s h) ∙ bits_end site (calmly k') }
 
-  pub gap_lt : (site : Site) → j < length s → get_or s j 0 ≡ 60 → GotGap site s at (Done j)
+  pub gap_lt : (site : Site) → j < length s → get_or s j 0 ≡ 60 → GotGap site s at (Ok j)
   gap_lt site h e = record { says = (x.walked.from, h, e, λ k. let (k', q) = glue_run site s at j x k in (calmly k', q)) }
 
   pub gap_text : {r : Step} → GotGap below_root s j r → GotGap below_root s at r
   gap_text {r} g = go r g
     where
       go : (r : Step) → GotGap below_root s j r → GotGap below_root s at r
-      go (Done e) g = record { says = (let f = x.walked.from in let z = g.says.0 in omega arith, g.says.1, g.says.2, λ k. let (k', q) = glue_run below_root s at j x k in let (a, y) = g.says.3 k' in (a, q ∙ y)) }
-      go Open g = record { says = λ k. let (k', q) = glue_run below_root s at j x k in q ∙ g.says k' }
-      go (Bad p) g = record { says = (let f = x.walked.from in let z = g.says.0 in omega arith, g.says.1, λ k. let (k', q) = glue_run below_root s at j x k in q ∙ g.says.2 k') }
+      go (Ok e) g = record { says = (let f = x.walked.from in let z = g.says.0 in omega arith, g.says.1, g.says.2, λ k. let (k', q) = glue_run below_root s at j x k in let (a, y) = g.says.3 k' in (a, q ∙ y)) }
+      go (Err Open) g = record { says = λ k. let (k', q) = glue_run below_root s at j x k in q ∙ g.says k' }
+      go (Err (Bad p)) g = record { says = (let f = x.walked.from in let z = g.says.0 in omega arith, g.says.1, λ k. let (k', q) = glue_run below_root s at j x k in q ∙ g.says.2 k') }
 
-  pub gap_bad : j < length s → (get_or s j 0 ≡ 60 → ⊥) → GotGap in_root s at (Bad j)
+  pub gap_bad : j < length s → (get_or s j 0 ≡ 60 → ⊥) → GotGap in_root s at (Err (Bad j))
   gap_bad h ne = record { says = (x.walked.from, h, λ k. let (k', q) = glue_run in_root s at j x k in q ∙ dies k') }
     where
       dies : (k : Filler → Filler) → bits_p in_root (calmly k) (drop j s) ≡ bad (drop j s)
@@ -84,16 +85,15 @@ module _ (site : Site) (s : Bytes) (at : ℕ) where
     so : {o : Out (Ahead Filler)} → bits_p site (calmly w.k) (drop i s) ≡ o → fill_tok site (drop at s) ≡ chained o handed
     so e = tok_is site (drop at s) ∙ ap (λ (o : Out (Ahead Filler)). chained o handed) (w.same ∙ e)
 
-    pub fill_fails : {r : Step} → Fails r → GotGap site s i r → GotFiller site s at r
-    fill_fails {r} f g = record { says = go r f g }
+    pub fill_fails : {x : Stop} → GotGap site s i (Err x) → GotFiller site s at (Err x)
+    fill_fails {x} g = record { says = go x g }
       where
-        go : (r : Step) → Fails r → GotGap site s i r → Got 1 s at r (fill_tok site (drop at s))
-        go (Done e) f g = never f
-        go Open f g = record { says = so (g.says w.k) ∙ then_more handed refl }
-        go (Bad p) f g = record { says = (let a = w.from in let b = g.says.0 in omega arith, g.says.1, so (g.says.2 w.k) ∙ then_bad handed refl) }
+        go : (x : Stop) → GotGap site s i (Err x) → Got 1 s at (Err x) (fill_tok site (drop at s))
+        go Open g = record { says = so (g.says w.k) ∙ then_more handed refl }
+        go (Bad p) g = record { says = (let a = w.from in let b = g.says.0 in omega arith, g.says.1, so (g.says.2 w.k) ∙ then_bad handed refl) }
 
     -- at the next `<`
-    module _ (j : ℕ) (g : GotGap site s i (Done j)) where
+    module _ (j : ℕ) (g : GotGap site s i (Ok j)) where
       past : FillAcc
       past = (g.says.3 w.k).0
 
@@ -107,13 +107,13 @@ module _ (site : Site) (s : Bytes) (at : ℕ) where
       here : fill_tok site (drop at s) ≡ chained (bits_p site past (60 ∷ drop (j + 1) s)) handed
       here = so reached
 
-      pub fill-short : length s - j < 2 → GotFiller site s at Open
+      pub fill-short : length s - j < 2 → GotFiller site s at (Err Open)
       fill-short h =
           let l : length s ≤ j + 1 = omega arith in
           record { says = record { says = here ∙ ap (λ (t : Bytes). chained (bits_p site past (60 ∷ t)) handed) (drop_of_length-le s l) ∙ then_more handed (bits_short site past) } }
 
       module _ (l : j + 1 < length s) where
-        pub fill-tag : (get_or s (j + 1) 0 ≡ 33 → ⊥) → GotFiller site s at (Done (j + 1))
+        pub fill-tag : (get_or s (j + 1) 0 ≡ 33 → ⊥) → GotFiller site s at (Ok (j + 1))
         fill-tag ne =
             let b = get_or s (j + 1) 0 in
             let u = drop (suc (j + 1)) s in
@@ -130,13 +130,13 @@ module _ (site : Site) (s : Bytes) (at : ℕ) where
               here ∙ ap (λ (t : Bytes). chained (bits_p site past (60 ∷ t)) handed) e
               ∙ ap (λ (o : Out (Ahead Filler)). chained o handed) (bits_comment site past (drop (j + 2) s) ∙ then_and (comment_p (drop (j + 2) s)) (λ m u. bits_p site (added past (comment m)) u))
 
-          pub fill-comment-fails : {r : Step} → Fails r → Got 1 s (j + 2) r (comment_p (drop (j + 2) s)) → GotFiller site s at r
-          fill-comment-fails f c =
+          pub fill-comment-fails : {x : Stop} → Got 1 s (j + 2) (Err x) (comment_p (drop (j + 2) s)) → GotFiller site s at (Err x)
+          fill-comment-fails c =
               let a = w.from in
               let b = g.says.0 in
-              record { says = pass f c 1 at (omega arith) _ (commented ∙ and_and (comment_p (drop (j + 2) s)) (λ m u. bits_p site (added past (comment m)) u) handed) }
+              record { says = pass c 1 at (omega arith) _ (commented ∙ and_and (comment_p (drop (j + 2) s)) (λ m u. bits_p site (added past (comment m)) u) handed) }
 
-          pub fill-next : {e : ℕ} → Got 1 s (j + 2) (Done e) (comment_p (drop (j + 2) s)) → InFill site s at e
+          pub fill-next : {e : ℕ} → Got 1 s (j + 2) (Ok e) (comment_p (drop (j + 2) s)) → InFill site s at e
           fill-next {e} c =
               let a = w.from in
               let b = g.says.0 in
@@ -150,7 +150,7 @@ module _ (site : Site) (s : Bytes) (at : ℕ) where
               }
 
 -- glue, and a tag behind it
-pub fill_glue : (site : Site) (s : Bytes) (at j : ℕ) → at ≤ length s → Skipped s at j → TagAt s j → GotFiller site s at (Done (j + 1))
+pub fill_glue : (site : Site) (s : Bytes) (at j : ℕ) → at ≤ length s → Skipped s at j → TagAt s j → GotFiller site s at (Ok (j + 1))
 fill_glue site s at j h x t = let l = t.inside in fill-tag site s at at (fill_start site s at h) j (gap_lt s at j x site (omega arith) t.opens) l t.apart
 
 pub tag_there : {s : Bytes} {j : ℕ} → j + 1 < length s → get_or s j 0 ≡ 60 → not (eqb (get_or s (j + 1) 0) 33) ≡ true → TagAt s j

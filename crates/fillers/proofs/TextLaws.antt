@@ -15,14 +15,12 @@ use Rattle.grammar.specs.Value.{Item}
 use Rattle.grammar.specs.Filler.{below_root, in_text, Filler, brackets, stopper}
 use Rattle.model.specs.Values.{item_p}
 use Rattle.model.specs.Fillers.{text_p, FillAcc, added}
-use Rattle.pieces.proofs.Answers.{never}
-use Rattle.scan.specs.declared.Step.{Step}
-use Rattle.scan.specs.declared.Step.TheVariants.{Done, Open as Unended}
-use Rattle.pieces.specs.Says.{Known, Says, step_of}
+use Rattle.std.specs.Prelude.{Ok, Err}
+use Rattle.scan.specs.Pieces.{Step}
+use Rattle.scan.specs.declared.Stop.{Stop}
+use Rattle.scan.specs.declared.Stop.TheVariants.{Open, Bad}
+use Rattle.pieces.specs.Says.{Known, Says}
 use Rattle.pieces.specs.Parts.{code_point}
-use Rattle.pieces.proofs.Answers.{Fails}
-use Rattle.pieces.specs.declared.Piece.{Piece}
-use Rattle.pieces.specs.declared.Piece.TheVariants.{Got, Open, Bad}
 use Rattle.fillers.specs.Fills.{Cleared, bits_p, calmly, GotGap}
 use Rattle.fillers.proofs.BitLaws.{bits_end, bits_text, plain_run, item_row}
 
@@ -49,7 +47,7 @@ module _ (s : Bytes) (at : ℕ) where
   text_start h = record { from = omega arith; upto = h; few = omega arith; same = λ k. (k, refl) }
 
   module _ (i n : ℕ) (w : InText s at i n) where
-    pub text_end : length s ≤ i → TextSays Unended
+    pub text_end : length s ≤ i → TextSays (Err Open)
     text_end h = record { says = λ k. let (k', e) = w.same k in e ∙ ap (bits_p below_root (behind n k')) (drop_of_length-le s h) ∙ bits_end below_root (behind n k') }
 
     pub text_cleared : (j : ℕ) → Cleared s i n j → InText s at j n
@@ -69,7 +67,7 @@ module _ (s : Bytes) (at : ℕ) where
         go (inr z) = subst (λ (x : ℕ). InText s at x n) (sym z) w
 
     module _ (h : i < length s) where
-      pub text-stop : get_or s i 0 ≡ 60 → TextSays (Done i)
+      pub text-stop : get_or s i 0 ≡ 60 → TextSays (Ok i)
       text-stop e = record { says = (w.from, h, e, λ k. let (k', q) = w.same k in (behind n k', q)) }
 
       module _ (ne : get_or s i 0 ≡ 60 → ⊥) where
@@ -79,16 +77,15 @@ module _ (s : Bytes) (at : ℕ) where
             let y : bits_p below_root (behind n k') (drop i s) ≡ and_then (text_p below_root n (drop i s)) (λ x u. bits_p below_root (added (behind n k') (in_text x)) u) = rw (drop-cons s i 0 h) (bits_text below_root (behind n k') (get_or s i 0) (drop (suc i) s) ne) in
             (k', e ∙ y ∙ ap (λ (o : Out Item). and_then o (λ x u. bits_p below_root (added (behind n k') (in_text x)) u)) (text_is n (drop i s)))
 
-        pub text-fail : {q : ℕ} {p : Piece} {r : Step} → q ≡ stopper n → Fails p → r ≡ step_of p → Says code_point 1 s i p (item_p q (drop i s)) → TextSays r
-        text-fail {q} {p} {r} z x e g = subst TextSays (sym e) (go p x (subst (λ (q : ℕ). Says code_point 1 s i p (item_p q (drop i s))) z g))
+        pub text-fail : {q : ℕ} {x : Stop} → q ≡ stopper n → Says code_point 1 s i (Err x) (item_p q (drop i s)) → TextSays (Err x)
+        text-fail {q} {x} z g = go x (subst (λ (q : ℕ). Says code_point 1 s i (Err x) (item_p q (drop i s))) z g)
           where
-            go : (p : Piece) → Fails p → Says code_point 1 s i p (item_p (stopper n) (drop i s)) → TextSays (step_of p)
-            go (Got c e) x g = never x
-            go Open x g = record { says = λ k. let (k', q) = turned k in q ∙ ap (λ (o : Out Item). and_then o (λ x u. bits_p below_root (added (behind n k') (in_text x)) u)) g.says }
-            go (Bad p) x g =
+            go : (x : Stop) → Says code_point 1 s i (Err x) (item_p (stopper n) (drop i s)) → TextSays (Err x)
+            go Open g = record { says = λ k. let (k', q) = turned k in q ∙ ap (λ (o : Out Item). and_then o (λ x u. bits_p below_root (added (behind n k') (in_text x)) u)) g.says }
+            go (Bad p) g =
                 let y = g.says in
                 let a = w.from in
-                record { says = (omega (arith, y.from), y.inside, λ k. let (k', q) = turned k in q ∙ ap (λ (o : Out Item). and_then o (λ x u. bits_p below_root (added (behind n k') (in_text x)) u)) y.reads) }
+                record { says = (let b = y.0 in omega arith, y.1, λ k. let (k', q) = turned k in q ∙ ap (λ (o : Out Item). and_then o (λ x u. bits_p below_root (added (behind n k') (in_text x)) u)) y.2) }
 
         text-read : {c e m : ℕ} → Known code_point 1 s i c e (item_p (stopper n) (drop i s)) → m ≡ cond (eqb 93 (get_or s i 0)) (suc n) 0 → InText s at e m
         text-read {c} {e} {m} g q =

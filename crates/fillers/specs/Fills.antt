@@ -1,5 +1,5 @@
 -- What the answers of the readers of comments, text and filler say of the models.
-use Rattle.std.specs.Prelude.{◌≡◌, ◌∷◌, ◌⊎◌, Bool, true, false, ℕ, ◌+◌, ◌≤◌, ◌<◌, length, drop, get_or}
+use Rattle.std.specs.Prelude.{◌≡◌, ◌∷◌, ◌⊎◌, Bool, true, false, ℕ, ◌+◌, ◌≤◌, ◌<◌, length, drop, get_or, Ok, Err}
 use Rattle.exact.specs.Exact.{done, more, bad, Reader}
 use Rattle.exact.specs.Ahead.{Ahead}
 use Rattle.exact.specs.Loop.{loop_p}
@@ -8,9 +8,8 @@ use Rattle.grammar.specs.Value.{banned}
 use Rattle.grammar.specs.Filler.{Site, in_root, below_root, Filler}
 use Rattle.model.specs.Characters.{plain_byte}
 use Rattle.model.specs.Fillers.{FillAcc, bit_p, peek_p}
-use Rattle.scan.specs.Pieces.{Got, chained}
-use Rattle.scan.specs.declared.Step.{Step}
-use Rattle.scan.specs.declared.Step.TheVariants.{Done, Open, Bad}
+use Rattle.scan.specs.Pieces.{Step, Got, chained}
+use Rattle.scan.specs.declared.Stop.TheVariants.{Open, Bad}
 
 -- where filler stands
 abbrev pub site_of : Bool → Site
@@ -55,9 +54,9 @@ calmly k = record { row = 0; build = k }
 
 -- the next `<` behind glue or text, whatever was read before
 abbrev pub GapCase : Site → Bytes → ℕ → Step → Type 0
-GapCase site s at (Done j) = (at ≤ j) × (j < length s) × (get_or s j 0 ≡ 60) × ((k : Filler → Filler) → (a : FillAcc) × (bits_p site (calmly k) (drop at s) ≡ bits_p site a (drop j s)))
-GapCase site s at Open = (k : Filler → Filler) → bits_p site (calmly k) (drop at s) ≡ more
-GapCase site s at (Bad p) = (at ≤ p) × (p < length s) × ((k : Filler → Filler) → bits_p site (calmly k) (drop at s) ≡ bad (drop p s))
+GapCase site s at (Ok j) = (at ≤ j) × (j < length s) × (get_or s j 0 ≡ 60) × ((k : Filler → Filler) → (a : FillAcc) × (bits_p site (calmly k) (drop at s) ≡ bits_p site a (drop j s)))
+GapCase site s at (Err Open) = (k : Filler → Filler) → bits_p site (calmly k) (drop at s) ≡ more
+GapCase site s at (Err (Bad p)) = (at ≤ p) × (p < length s) × ((k : Filler → Filler) → bits_p site (calmly k) (drop at s) ≡ bad (drop p s))
 
 pub record GotGap (site : Site) (s : Bytes) (at : ℕ) (r : Step) : Type 0 where
   pub says : GapCase site s at r

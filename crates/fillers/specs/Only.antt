@@ -2,7 +2,7 @@
 use Rattle.std.specs.Prelude.{◌≡◌, ℕ}
 use Rattle.grammar.specs.Bytes.{Bytes}
 use Rattle.grammar.specs.Filler.{Site}
-use Rattle.scan.specs.declared.Step.{Step}
+use Rattle.scan.specs.Pieces.{Step}
 use Rattle.pieces.specs.Only.{step_only}
 use Rattle.fillers.specs.Fills.{GotFiller}
 

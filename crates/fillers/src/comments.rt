@@ -6,21 +6,27 @@ ghost use Rattle.pieces.specs.Says.{Says};
 ghost use Rattle.fillers.specs.Fills.{PastDash};
 
 use crate::runs::run;
-use pieces::Piece;
-use scan::Step;
+use pieces::{Character, Piece};
+use scan::{Step, Stop};
 
 // A character that is no `-`.
 fn character(s: &[u8], at: usize) -> Piece
     ensures { Says (λ (c : ℕ). c) 1 s.now at result (no_dash_p (drop at s.now)) }
 {
     if s.len() <= at {
-        return Piece::Open;
+        return Err(Stop::Open);
     }
     if s[at] == b'<' {
-        return Piece::Got(60, at + 1);
+        return Ok(Character {
+            code_point: 60,
+            next: at + 1,
+        });
     }
     if s[at] == b'&' {
-        return Piece::Got(38, at + 1);
+        return Ok(Character {
+            code_point: 38,
+            next: at + 1,
+        });
     }
     pieces::characters::character(s, at, b'-')
 }
@@ -45,22 +51,19 @@ fn marks(s: &[u8], at: usize) -> Step
     while i < s.len() {
         let j = run(s, i, b'-');
         if s.len() <= j {
-            return Step::Open;
+            return Err(Stop::Open);
         }
         let k = past_dash(s, j);
         if s.len() <= k {
-            return Step::Open;
+            return Err(Stop::Open);
         }
         if s[k] == b'-' {
             return scan::byte(s, k + 1, b'>');
         }
-        let p = character(s, k);
-        let Piece::Got(c, e) = p else {
-            return pieces::step(p);
-        };
-        i = e;
+        let c = character(s, k)?;
+        i = c.next;
     }
-    Step::Open
+    Err(Stop::Open)
 }
 
 /// A comment, behind its `<!`.
@@ -68,9 +71,6 @@ pub fn comment(s: &[u8], at: usize) -> Step
     requires { at ≤ length s.now }
     ensures { Got 1 s.now at result (comment_p (drop at s.now)) }
 {
-    let r = scan::literal(s, at, b"--");
-    let Step::Done(a) = r else {
-        return r;
-    };
-    marks(s, a)
+    let i = scan::literal(s, at, b"--")?;
+    marks(s, i)
 }

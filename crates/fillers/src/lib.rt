@@ -5,7 +5,7 @@
 ghost use Rattle.std.specs.Prelude.{◌≡◌, true, ◌≤◌, length};
 ghost use Rattle.fillers.specs.Fills.{site_of, GotGap, TagAt, GotFiller};
 
-use scan::Step;
+use scan::{Step, Stop};
 
 pub mod comments;
 pub mod runs;
@@ -18,15 +18,15 @@ fn gap(s: &[u8], at: usize, below: bool) -> Step
 {
     let j = scan::skip_glue(s, at);
     if s.len() <= j {
-        return Step::Open;
+        return Err(Stop::Open);
     }
     if s[j] == b'<' {
-        return Step::Done(j);
+        return Ok(j);
     }
     if below {
         return texts::text(s, j);
     }
-    Step::Bad(j)
+    Err(Stop::Bad(j))
 }
 
 /// The same bit by bit, for where it is rarely read: the whole of it stands here once, and `filler_lt` is small where it is used.
@@ -36,21 +36,14 @@ pub fn bits(s: &[u8], at: usize, below: bool) -> Step
 {
     let mut i = at;
     loop {
-        let r = gap(s, i, below);
-        let Step::Done(j) = r else {
-            return r;
-        };
+        let j = gap(s, i, below)?;
         if s.len() - j < 2 {
-            return Step::Open;
+            return Err(Stop::Open);
         }
         if s[j + 1] != b'!' {
-            return Step::Done(j + 1);
+            return Ok(j + 1);
         }
-        let r = comments::comment(s, j + 2);
-        let Step::Done(e) = r else {
-            return r;
-        };
-        i = e;
+        i = comments::comment(s, j + 2)?;
     }
 }
 
@@ -75,7 +68,7 @@ pub fn filler_lt(s: &[u8], at: usize, below: bool) -> Step
 {
     let j = scan::skip_glue(s, at);
     if is_tag(s, j) {
-        return Step::Done(j + 1);
+        return Ok(j + 1);
     }
     bits(s, at, below)
 }

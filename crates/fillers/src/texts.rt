@@ -4,8 +4,7 @@ ghost use Rattle.grammar.specs.Filler.{stopper, below_root};
 ghost use Rattle.fillers.specs.Fills.{Cleared, GotGap};
 
 use crate::runs::run;
-use pieces::Piece;
-use scan::Step;
+use scan::{Step, Stop};
 
 // What may not stand raw behind n `]` in a row.
 fn stop(n: usize) -> u8
@@ -49,17 +48,14 @@ pub fn text(s: &[u8], at: usize) -> Step
     while i < s.len() {
         let j = clear(s, i, n);
         if s.len() <= j {
-            return Step::Open;
+            return Err(Stop::Open);
         }
         if s[j] == b'<' {
-            return Step::Done(j);
+            return Ok(j);
         }
-        let p = pieces::values::item(s, j, stop(n));
-        let Piece::Got(c, e) = p else {
-            return pieces::step(p);
-        };
+        let c = pieces::values::item(s, j, stop(n))?;
         n = row(s, j, n);
-        i = e;
+        i = c.next;
     }
-    Step::Open
+    Err(Stop::Open)
 }

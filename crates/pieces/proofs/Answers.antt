@@ -1,5 +1,5 @@
 -- Answers taken apart, passed on and put together; what combinators do at a position.
-use mathlib.Core.Path.{◌≡◌, refl, sym, subst, ◌∙◌}
+use mathlib.Core.Path.{◌≡◌, refl, subst, ◌∙◌}
 use mathlib.Core.List.{[], ◌∷◌}
 use mathlib.Core.Bool.{Bool, true, false}
 use Prim.Native.Nat.{ℕ, ◌+◌, ◌≤◌, ◌<◌}
@@ -11,33 +11,23 @@ use Rattle.exact.specs.Exact.{Out, done, more, bad, Reader}
 use Rattle.exact.specs.Chain.{ret_p, and_then}
 use Rattle.exact.specs.Byte.{pick, on_p}
 use Rattle.grammar.specs.Bytes.{Bytes, same}
-use Rattle.pieces.specs.Says.{Known, PieceCase, Says, step_of, piece_of}
+use Rattle.std.specs.Prelude.{Ok, Err}
 use Rattle.scan.specs.Pieces.{Got as StepSays}
-use Rattle.scan.specs.declared.Step.{Step}
-use Rattle.scan.specs.declared.Step.TheVariants.{Done, Open as Unended, Bad as Dead}
-use Rattle.pieces.specs.declared.Piece.{Piece}
-use Rattle.pieces.specs.declared.Piece.TheVariants.{Got, Open, Bad}
-
--- the answer is no Got
-abbrev pub Fails : Piece → Type 0
-Fails r = (c e : ℕ) → r ≡ Got c e → ⊥
-
-pub never : {A : Type 0} {c e : ℕ} → Fails (Got c e) → A
-never {A} {c} {e} f = absurd (f c e refl)
+use Rattle.scan.specs.Unfold.{then_and}
+use Rattle.scan.proofs.Chain.{stops}
+use Rattle.scan.specs.declared.Stop.{Stop}
+use Rattle.scan.specs.declared.Stop.TheVariants.{Open, Bad}
+use Rattle.pieces.specs.Says.{Piece, got, Known, PieceCase, Says}
+use Rattle.pieces.specs.declared.Character.{Character}
 
 -- an answer that is known
-pub known : {A : Type 0} {f : A → ℕ} {k : ℕ} {s : Bytes} {at : ℕ} {r : Piece} {o : Out A} {c e : ℕ} → r ≡ Got c e → Says f k s at r o → Known f k s at c e o
-known {A} {f} {k} {s} {at} {r} {o} {c} {e} q g = subst (λ (r : Piece). PieceCase f k s at r o) q g.says
+pub known : {A : Type 0} {f : A → ℕ} {k : ℕ} {s : Bytes} {at : ℕ} {r : Piece} {o : Out A} {c : Character} → r ≡ Ok c → Says f k s at r o → Known f k s at c.code_point c.next o
+known {A} {f} {k} {s} {at} {r} {o} q g = subst (λ (r : Piece). PieceCase f k s at r o) q g.says
 
--- what fails fails what it begins
-pub pass : {A B : Type 0} {f : A → ℕ} {k : ℕ} {s : Bytes} {at : ℕ} {r : Piece} {o : Out A} → Fails r → Says f k s at r o
-    → {f' : B → ℕ} {k' at' : ℕ} → at' ≤ at → (K : A → Reader B) {o' : Out B} → o' ≡ and_then o K → Says f' k' s at' r o'
-pass {A} {B} {f} {k} {s} {at} {r} {o} x g {f'} {k'} {at'} le K {o'} q = go r x g
-  where
-    go : (r : Piece) → Fails r → Says f k s at r o → Says f' k' s at' r o'
-    go (Got c e) x g = never x
-    go Open x g = let z = g.says in record { says = q ∙ rw z }
-    go (Bad p) x g = let z = g.says.reads in let y = g.says in record { says = record { from = omega arith; inside = y.inside; reads = q ∙ rw z } }
+-- what stopped stops what it begins
+pub pass : {A B : Type 0} {f : A → ℕ} {k : ℕ} {s : Bytes} {at : ℕ} {x : Stop} {o : Out A} → Says f k s at (Err x) o
+    → {f' : B → ℕ} {k' at' : ℕ} → at' ≤ at → (K : A → Reader B) {o' : Out B} → o' ≡ and_then o K → Says f' k' s at' (Err x) o'
+pass {s = s} {at = at} {x = x} {o = o} g {at' = at'} le K q = record { says = stops s at o x g.says at' le K (q ∙ then_and o K) }
 
 -- the last thing that is read
 pub last : {A B : Type 0} {f : A → ℕ} {k : ℕ} {s : Bytes} {at : ℕ} {r : Piece} {o : Out A} → Says f k s at r o
@@ -45,17 +35,16 @@ pub last : {A B : Type 0} {f : A → ℕ} {k : ℕ} {s : Bytes} {at : ℕ} {r : 
 last {A} {B} {f} {k} {s} {at} {r} {o} g {f'} {k'} {at'} le le₂ v same {o'} q = go r g
   where
     go : (r : Piece) → Says f k s at r o → Says f' k' s at' r o'
-    go (Got c e) g = let y = g.says in let z = y.reads in record { says = record { value = v y.value; is = same y.value ∙ y.is; far = omega arith; upto = y.upto; reads = q ∙ rw z } }
-    go Open g = let z = g.says in record { says = q ∙ rw z }
-    go (Bad p) g = let z = g.says.reads in let y = g.says in record { says = record { from = omega arith; inside = y.inside; reads = q ∙ rw z } }
+    go (Ok c) g = let y = g.says in let z = y.reads in record { says = record { value = v y.value; is = same y.value ∙ y.is; far = omega arith; upto = y.upto; reads = q ∙ rw z } }
+    go (Err x) g = pass g le₂ (λ x t. done (v x) t) q
 
 pub moved : {A : Type 0} {f : A → ℕ} {k : ℕ} {s : Bytes} {at : ℕ} {r : Piece} {o : Out A} → Says f k s at r o → {k' at' : ℕ} → at' + k' ≤ at + k → at' ≤ at → {o' : Out A} → o' ≡ o → Says f k' s at' r o'
 moved {A} {f} {k} {s} {at} {r} {o} g {k'} {at'} le le₂ {o'} q = go r g
   where
     go : (r : Piece) → Says f k s at r o → Says f k' s at' r o'
-    go (Got c e) g = let y = g.says in record { says = record { value = y.value; is = y.is; far = omega arith; upto = y.upto; reads = q ∙ y.reads } }
-    go Open g = record { says = q ∙ g.says }
-    go (Bad p) g = let y = g.says in record { says = record { from = omega arith; inside = y.inside; reads = q ∙ y.reads } }
+    go (Ok c) g = let y = g.says in record { says = record { value = y.value; is = y.is; far = omega arith; upto = y.upto; reads = q ∙ y.reads } }
+    go (Err Open) g = record { says = q ∙ g.says }
+    go (Err (Bad p)) g = record { says = (let h = g.says.0 in omega arith, g.says.1, q ∙ g.says.2) }
 
 -- a byte by a test, and then more: a test that is the same at each byte may stand for it
 pub on_as : {A : Type 0} (t t' : ℕ → Bool) → ((b : ℕ) → t b ≡ t' b) → (q : ℕ → Reader A) (x : Bytes) → on_p t q x ≡ and_then (on_p t' (λ b. ret_p b) x) q
@@ -93,19 +82,10 @@ module _ {s : Bytes} {at k c e : ℕ} (t' : ℕ → Bool) (g : Known (λ (b : �
   on_passed = let i = g.is in rw i at (on_tested t' (drop at s) g.value (drop e s) g.reads)
 
 -- a reader without a value, which stands for the number c
-pub spoken : {A : Type 0} {k : ℕ} {s : Bytes} {at : ℕ} {r : Step} {o : Out A} (c : ℕ) {p : Piece} → p ≡ piece_of c r → StepSays k s at r o → Says (λ (x : A). c) k s at p o
-spoken {A} {k} {s} {at} {r} {o} c e g = subst (λ (p : Piece). Says (λ (x : A). c) k s at p o) (sym e) (go r g)
-  where
-    go : (r : Step) → StepSays k s at r o → Says (λ (x : A). c) k s at (piece_of c r) o
-    go (Done e) g = record { says = record { value = g.says.0; is = refl; far = g.says.1; upto = g.says.2; reads = g.says.3 } }
-    go Unended g = record { says = g.says }
-    go (Dead p) g = record { says = record { from = g.says.0; inside = g.says.1; reads = g.says.2 } }
+pub spoken : {A : Type 0} {k : ℕ} {s : Bytes} {at e : ℕ} {o : Out A} (c : ℕ) → StepSays k s at (Ok e) o → Says (λ (x : A). c) k s at (got c e) o
+spoken c g = record { says = record { value = g.says.0; is = refl; far = g.says.1; upto = g.says.2; reads = g.says.3 } }
 
--- the same answer without its number
-pub stepped : {A : Type 0} {f : A → ℕ} {k : ℕ} {s : Bytes} {at : ℕ} {p : Piece} {o : Out A} {r : Step} → r ≡ step_of p → Says f k s at p o → StepSays k s at r o
-stepped {A} {f} {k} {s} {at} {p} {o} e g = subst (λ (r : Step). StepSays k s at r o) (sym e) (go p g)
-  where
-    go : (p : Piece) → Says f k s at p o → StepSays k s at (step_of p) o
-    go (Got c e) g = let y = g.says in record { says = (y.value, y.far, y.upto, y.reads) }
-    go Open g = record { says = g.says }
-    go (Bad p) g = let y = g.says in record { says = (y.from, y.inside, y.reads) }
+-- what stopped a reader of a character stops what reads no number
+pub stepped : {A B : Type 0} {f : A → ℕ} {k : ℕ} {s : Bytes} {at : ℕ} {x : Stop} {o : Out A} → Says f k s at (Err x) o
+    → {k' at' : ℕ} → at' ≤ at → (K : A → Reader B) {o' : Out B} → o' ≡ and_then o K → StepSays k' s at' (Err x) o'
+stepped {s = s} {at = at} {x = x} {o = o} g {at' = at'} le K q = record { says = stops s at o x g.says at' le K (q ∙ then_and o K) }

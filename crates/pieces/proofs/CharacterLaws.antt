@@ -19,12 +19,13 @@ use Rattle.grammar.specs.Bytes.{Bytes, within}
 use Rattle.grammar.specs.Glue.{is_glue}
 use Rattle.grammar.specs.Character.{is_char}
 use Rattle.grammar.specs.Value.{banned}
-use Rattle.pieces.specs.Says.{Known, Says}
+use Rattle.std.specs.Prelude.{Err}
+use Rattle.scan.specs.declared.Stop.{Stop}
+use Rattle.scan.specs.declared.Stop.TheVariants.{Open, Bad}
+use Rattle.pieces.specs.Says.{Piece, got, Known, Says}
 use Rattle.pieces.specs.Parts.{two_p, three_p, four_p}
 use Rattle.pieces.proofs.Tests.{under, over}
-use Rattle.pieces.proofs.Answers.{Fails, pass, moved, on_as, on_end, on_hit, on_miss, on_known, on_passed}
-use Rattle.pieces.specs.declared.Piece.{Piece}
-use Rattle.pieces.specs.declared.Piece.TheVariants.{Got, Open, Bad}
+use Rattle.pieces.proofs.Answers.{pass, moved, on_as, on_end, on_hit, on_miss, on_known, on_passed}
 
 -- the class of plain bytes
 pub plain_quote : (q b : ℕ) → q ≡ b → false ≡ plain_byte (banned q) b
@@ -68,16 +69,16 @@ module _ (lo hi : ℕ) (s : Bytes) (at : ℕ) where
   abbrev TailSays : Piece → Type 0
   TailSays r = Says (λ (b : ℕ). b) 1 s at r (on_p (within lo hi) (λ b. ret_p b) (drop at s))
 
-  pub tail_open : length s ≤ at → TailSays Open
+  pub tail_open : length s ≤ at → TailSays (Err Open)
   tail_open h = record { says = on_end (within lo hi) (λ b. ret_p b) s at h }
 
-  pub tail_low : at < length s → get_or s at 0 < lo → TailSays (Bad at)
-  tail_low h k = record { says = record { from = omega arith; inside = h; reads = on_miss (within lo hi) (λ b. ret_p b) s at h (under lo hi _ k) } }
+  pub tail_low : at < length s → get_or s at 0 < lo → TailSays (Err (Bad at))
+  tail_low h k = record { says = (omega arith, h, on_miss (within lo hi) (λ b. ret_p b) s at h (under lo hi _ k)) }
 
-  pub tail_high : at < length s → hi < get_or s at 0 → TailSays (Bad at)
-  tail_high h k = record { says = record { from = omega arith; inside = h; reads = on_miss (within lo hi) (λ b. ret_p b) s at h (over lo hi _ k) } }
+  pub tail_high : at < length s → hi < get_or s at 0 → TailSays (Err (Bad at))
+  tail_high h k = record { says = (omega arith, h, on_miss (within lo hi) (λ b. ret_p b) s at h (over lo hi _ k)) }
 
-  pub tail_in : (v : ℕ) → v ≡ get_or s at 0 → at < length s → lo ≤ get_or s at 0 → get_or s at 0 ≤ hi → TailSays (Got v (at + 1))
+  pub tail_in : (v : ℕ) → v ≡ get_or s at 0 → at < length s → lo ≤ get_or s at 0 → get_or s at 0 ≤ hi → TailSays (got v (at + 1))
   tail_in v e h j k = record { says = record { value = get_or s at 0; is = sym e; far = omega arith; upto = omega arith; reads = on_hit (within lo hi) (λ b. ret_p b) s at h (range_in lo hi _ j k) } }
 
 -- a byte between two was read
@@ -90,11 +91,11 @@ module _ (lo hi : ℕ) (s : Bytes) (at : ℕ) where
 
 -- two bytes
 module _ (b : ℕ) (s : Bytes) (at : ℕ) where
-  pub two_fails : {r : Piece} → Fails r → TailSays 128 191 s at r → Says (λ (c : ℕ). c) 1 s at r (two_p b (drop at s))
+  pub two_fails : {x : Stop} → TailSays 128 191 s at (Err x) → Says (λ (c : ℕ). c) 1 s at (Err x) (two_p b (drop at s))
   unfolding two_p
-  two_fails x g = pass x g (omega arith) (λ c. ret_p (next6 (b - 192) c)) (on_as cont (within 128 191) (λ c. refl) (λ c. ret_p (next6 (b - 192) c)) (drop at s))
+  two_fails g = pass g (omega arith) (λ c. ret_p (next6 (b - 192) c)) (on_as cont (within 128 191) (λ c. refl) (λ c. ret_p (next6 (b - 192) c)) (drop at s))
 
-  pub two_read : {c e : ℕ} → TailKnown 128 191 s at c e → Says (λ (c : ℕ). c) 1 s at (Got (next6 (b - 192) c) e) (two_p b (drop at s))
+  pub two_read : {c e : ℕ} → TailKnown 128 191 s at c e → Says (λ (c : ℕ). c) 1 s at (got (next6 (b - 192) c) e) (two_p b (drop at s))
   unfolding two_p
   two_read {c} {e} g = record { says = record { value = next6 (b - 192) c; is = refl; far = g.far; upto = g.upto; reads = on_known (within 128 191) g cont (λ c. refl) (λ c. ret_p (next6 (b - 192) c)) } }
 
@@ -106,9 +107,9 @@ module _ (b : ℕ) (low : 224 ≤ b) (high : b ≤ 239) (lo hi : ℕ) (is-lo : l
   test3 : (c : ℕ) → second3 b c ≡ within lo hi c
   test3 c = second3_ranges b c low high ∙ rw (is-lo, is-hi)
 
-  pub three_second_fails : {r : Piece} → Fails r → TailSays lo hi s at r → Says (λ (c : ℕ). c) 1 s at r (three_p b (drop at s))
+  pub three_second_fails : {x : Stop} → TailSays lo hi s at (Err x) → Says (λ (c : ℕ). c) 1 s at (Err x) (three_p b (drop at s))
   unfolding three_p
-  three_second_fails x g = pass x g (omega arith) rest3 (on_as (second3 b) (within lo hi) test3 rest3 (drop at s))
+  three_second_fails g = pass g (omega arith) rest3 (on_as (second3 b) (within lo hi) test3 rest3 (drop at s))
 
   pub three_bounds : {c e : ℕ} → TailKnown lo hi s at c e → (128 ≤ c) × (c ≤ 191)
   three_bounds {c} {e} g = let z = in_tail g in go (eqb 224 b) (eqb 237 b) (rw is-lo at z.0) (rw is-hi at z.1)
@@ -131,11 +132,11 @@ module _ (b : ℕ) (low : 224 ≤ b) (high : b ≤ 239) (lo hi : ℕ) (is-lo : l
     unfolding three_p
     first3 = on_known (within lo hi) g (second3 b) test3 rest3
 
-    pub three_third_fails : {r : Piece} → Fails r → TailSays 128 t s e r → Says (λ (c : ℕ). c) 1 s at r (three_p b (drop at s))
-    three_third_fails x h = let y = g.far in
-        pass x h (omega arith) (λ d. ret_p (next6 (next6 (b - 224) c) d)) (first3 ∙ on_as (third3 (next6 (b - 224) c)) (within 128 t) test3' (λ d. ret_p (next6 (next6 (b - 224) c) d)) (drop e s))
+    pub three_third_fails : {x : Stop} → TailSays 128 t s e (Err x) → Says (λ (c : ℕ). c) 1 s at (Err x) (three_p b (drop at s))
+    three_third_fails h = let y = g.far in
+        pass h (omega arith) (λ d. ret_p (next6 (next6 (b - 224) c) d)) (first3 ∙ on_as (third3 (next6 (b - 224) c)) (within 128 t) test3' (λ d. ret_p (next6 (next6 (b - 224) c) d)) (drop e s))
 
-    pub three_read : {d f : ℕ} → TailKnown 128 t s e d f → Says (λ (c : ℕ). c) 1 s at (Got (next6 (next6 (b - 224) c) d) f) (three_p b (drop at s))
+    pub three_read : {d f : ℕ} → TailKnown 128 t s e d f → Says (λ (c : ℕ). c) 1 s at (got (next6 (next6 (b - 224) c) d) f) (three_p b (drop at s))
     three_read {d} {f} h = let y = g.far in let z = h.far in
         record { says = record { value = next6 (next6 (b - 224) c) d; is = refl; far = omega arith; upto = h.upto; reads = first3 ∙ on_known (within 128 t) h (third3 (next6 (b - 224) c)) test3' (λ d. ret_p (next6 (next6 (b - 224) c) d)) } }
 
@@ -161,9 +162,9 @@ module _ (b : ℕ) (low : 240 ≤ b) (high : b ≤ 244) (lo hi : ℕ) (is-lo : l
   test4 : (c : ℕ) → second4 b c ≡ within lo hi c
   test4 c = second4_ranges b c low high ∙ rw (is-lo, is-hi)
 
-  pub four_second_fails : {r : Piece} → Fails r → TailSays lo hi s at r → Says (λ (c : ℕ). c) 1 s at r (four_p b (drop at s))
+  pub four_second_fails : {x : Stop} → TailSays lo hi s at (Err x) → Says (λ (c : ℕ). c) 1 s at (Err x) (four_p b (drop at s))
   unfolding four_p
-  four_second_fails x g = pass x g (omega arith) rest4 (on_as (second4 b) (within lo hi) test4 rest4 (drop at s))
+  four_second_fails g = pass g (omega arith) rest4 (on_as (second4 b) (within lo hi) test4 rest4 (drop at s))
 
   pub four_bounds : {c e : ℕ} → TailKnown lo hi s at c e → (128 ≤ c) × (c ≤ 191)
   four_bounds {c} {e} g = let z = in_tail g in go (eqb 240 b) (eqb 244 b) (rw is-lo at z.0) (rw is-hi at z.1)
@@ -179,17 +180,17 @@ module _ (b : ℕ) (low : 240 ≤ b) (high : b ≤ 244) (lo hi : ℕ) (is-lo : l
     unfolding four_p
     first4 = on_known (within lo hi) g (second4 b) test4 rest4
 
-    pub four_third_fails : {r : Piece} → Fails r → TailSays 128 191 s e r → Says (λ (c : ℕ). c) 1 s at r (four_p b (drop at s))
-    four_third_fails x h = let y = g.far in pass x h (omega arith) (rest4' c) (first4 ∙ on_as cont (within 128 191) (λ d. refl) (rest4' c) (drop e s))
+    pub four_third_fails : {x : Stop} → TailSays 128 191 s e (Err x) → Says (λ (c : ℕ). c) 1 s at (Err x) (four_p b (drop at s))
+    four_third_fails h = let y = g.far in pass h (omega arith) (rest4' c) (first4 ∙ on_as cont (within 128 191) (λ d. refl) (rest4' c) (drop e s))
 
     module _ {d f : ℕ} (h : TailKnown 128 191 s e d f) where
       second4-is : four_p b (drop at s) ≡ rest4' c d (drop f s)
       second4-is = first4 ∙ on_known (within 128 191) h cont (λ d. refl) (rest4' c)
 
-      pub four-fourth-fails : {r : Piece} → Fails r → TailSays 128 191 s f r → Says (λ (c : ℕ). c) 1 s at r (four_p b (drop at s))
-      four-fourth-fails x i = let y = g.far in let z = h.far in pass x i (omega arith) (rest4'' c d) (second4-is ∙ on_as cont (within 128 191) (λ d. refl) (rest4'' c d) (drop f s))
+      pub four-fourth-fails : {x : Stop} → TailSays 128 191 s f (Err x) → Says (λ (c : ℕ). c) 1 s at (Err x) (four_p b (drop at s))
+      four-fourth-fails i = let y = g.far in let z = h.far in pass i (omega arith) (rest4'' c d) (second4-is ∙ on_as cont (within 128 191) (λ d. refl) (rest4'' c d) (drop f s))
 
-      pub four-read : {i j : ℕ} → TailKnown 128 191 s f i j → Says (λ (c : ℕ). c) 1 s at (Got (next6 (next6 (next6 (b - 240) c) d) i) j) (four_p b (drop at s))
+      pub four-read : {i j : ℕ} → TailKnown 128 191 s f i j → Says (λ (c : ℕ). c) 1 s at (got (next6 (next6 (next6 (b - 240) c) d) i) j) (four_p b (drop at s))
       four-read {i} {j} m = let y = g.far in let z = h.far in let x = m.far in
           record { says = record { value = next6 (next6 (next6 (b - 240) c) d) i; is = refl; far = omega arith; upto = m.upto; reads = second4-is ∙ on_known (within 128 191) m cont (λ d. refl) (rest4'' c d) } }
 
@@ -198,18 +199,18 @@ module _ (ban : ℕ → Bool) (s : Bytes) (at : ℕ) where
   abbrev CharSays : Piece → Type 0
   CharSays r = Says (λ (c : ℕ). c) 1 s at r (char_p ban (drop at s))
 
-  pub char_open : length s ≤ at → CharSays Open
+  pub char_open : length s ≤ at → CharSays (Err Open)
   unfolding char_p
   char_open h = record { says = rw (drop_of_length-le s h) }
 
   module _ (in_s : at < length s) where
-    pub char_plain : (v : ℕ) → v ≡ get_or s at 0 → get_or s at 0 < 128 → plain_byte ban (get_or s at 0) ≡ true → CharSays (Got v (at + 1))
+    pub char_plain : (v : ℕ) → v ≡ get_or s at 0 → get_or s at 0 < 128 → plain_byte ban (get_or s at 0) ≡ true → CharSays (got v (at + 1))
     unfolding char_p
     char_plain v e h k = let h₀ : get_or s at 0 ≤ 127 = omega arith in record { says = record { value = get_or s at 0; is = sym e; far = omega arith; upto = omega arith; reads = rw (add-one, drop-cons s at 0 in_s, le-leb (get_or s at 0) 127 h₀, k) } }
 
-    pub char_not : get_or s at 0 < 128 → plain_byte ban (get_or s at 0) ≡ false → CharSays (Bad at)
+    pub char_not : get_or s at 0 < 128 → plain_byte ban (get_or s at 0) ≡ false → CharSays (Err (Bad at))
     unfolding char_p
-    char_not h k = let h₀ : get_or s at 0 ≤ 127 = omega arith in record { says = record { from = omega arith; inside = in_s; reads = rw (drop-cons s at 0 in_s, le-leb (get_or s at 0) 127 h₀, k) } }
+    char_not h k = let h₀ : get_or s at 0 ≤ 127 = omega arith in record { says = (omega arith, in_s, rw (drop-cons s at 0 in_s, le-leb (get_or s at 0) 127 h₀, k)) }
 
     pub char_two : {r : Piece} → 194 ≤ get_or s at 0 → get_or s at 0 < 224 → Says (λ (c : ℕ). c) 1 s (at + 1) r (two_p (get_or s at 0) (drop (at + 1) s)) → CharSays r
     unfolding char_p two_p
@@ -233,16 +234,16 @@ module _ (ban : ℕ → Bool) (s : Bytes) (at : ℕ) where
         let h₂ : 223 < get_or s at 0 = omega arith in
         moved g (omega arith) (omega arith) (rw (add-one, drop-cons s at 0 in_s, lt-leb (get_or s at 0) 127 h₁, lt-leb (get_or s at 0) 223 h₂, lt-leb (get_or s at 0) 239 h, range_in 240 244 (get_or s at 0) h k))
 
-    pub char_gap : 127 < get_or s at 0 → get_or s at 0 < 194 → CharSays (Bad at)
+    pub char_gap : 127 < get_or s at 0 → get_or s at 0 < 194 → CharSays (Err (Bad at))
     unfolding char_p
     char_gap h k =
         let h₁ : get_or s at 0 ≤ 223 = omega arith in
-        record { says = record { from = omega arith; inside = in_s; reads = rw (drop-cons s at 0 in_s, lt-leb (get_or s at 0) 127 h, le-leb (get_or s at 0) 223 h₁, under 194 223 (get_or s at 0) k) } }
+        record { says = (omega arith, in_s, rw (drop-cons s at 0 in_s, lt-leb (get_or s at 0) 127 h, le-leb (get_or s at 0) 223 h₁, under 194 223 (get_or s at 0) k)) }
 
-    pub char_past : 244 < get_or s at 0 → CharSays (Bad at)
+    pub char_past : 244 < get_or s at 0 → CharSays (Err (Bad at))
     unfolding char_p
     char_past h =
         let h₁ : 127 < get_or s at 0 = omega arith in
         let h₂ : 223 < get_or s at 0 = omega arith in
         let h₃ : 239 < get_or s at 0 = omega arith in
-        record { says = record { from = omega arith; inside = in_s; reads = rw (drop-cons s at 0 in_s, lt-leb (get_or s at 0) 127 h₁, lt-leb (get_or s at 0) 223 h₂, lt-leb (get_or s at 0) 239 h₃, over 240 244 (get_or s at 0) h) } }
+        record { says = (omega arith, in_s, rw (drop-cons s at 0 in_s, lt-leb (get_or s at 0) 127 h₁, lt-leb (get_or s at 0) 223 h₂, lt-leb (get_or s at 0) 239 h₃, over 240 244 (get_or s at 0) h)) }

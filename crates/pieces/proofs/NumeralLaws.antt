@@ -21,11 +21,11 @@ use Rattle.exact.specs.Token.{token_p}
 use Rattle.grammar.specs.Bytes.{Bytes, within, digit, every}
 use Rattle.grammar.specs.Character.{is_char}
 use Rattle.grammar.specs.Reference.{hex_digit, worth, number}
-use Rattle.pieces.specs.Says.{Says}
+use Rattle.std.specs.Prelude.{Err}
+use Rattle.scan.specs.declared.Stop.TheVariants.{Open, Bad}
+use Rattle.pieces.specs.Says.{Piece, got, Says}
 use Rattle.pieces.specs.Numerals.{digit_of, base_of, most_of, edge_of, top_of, alive_of, worth_of, numeral_p, value_of}
 use Rattle.pieces.proofs.Tests.{under, over}
-use Rattle.pieces.specs.declared.Piece.{Piece}
-use Rattle.pieces.specs.declared.Piece.TheVariants.{Got, Open, Bad}
 
 -- what is no character
 no_char_as : (c : ℕ) → (View c → ⊥) → false ≡ is_char c
@@ -220,17 +220,17 @@ module _ (k : Bool) (s : Bytes) (at v i spare : ℕ) (w : Counted k s at v i spa
   abbrev NumSays : Piece → Type 0
   NumSays r = Says (value_of k) 1 s at r (numeral_p k (drop at s))
 
-  pub digits_open : length s ≤ i → NumSays Open
+  pub digits_open : length s ≤ i → NumSays (Err Open)
   digits_open h = record { says = w.same ∙ rw (drop_of_length-le s h) }
 
   module _ (h : i < length s) (d : ℕ) (is-d : d ≡ worth_of k (get_or s i 0)) where
-    bad_at : tok k w.n (get_or s i 0 ∷ drop (suc i) s) ≡ bad (get_or s i 0 ∷ drop (suc i) s) → NumSays (Bad i)
-    bad_at e = record { says = record { from = w.from; inside = h; reads = w.same ∙ rw (drop-cons s i 0 h) e } }
+    bad_at : tok k w.n (get_or s i 0 ∷ drop (suc i) s) ≡ bad (get_or s i 0 ∷ drop (suc i) s) → NumSays (Err (Bad i))
+    bad_at e = record { says = (w.from, h, w.same ∙ rw (drop-cons s i 0 h) e) }
 
-    pub digits_other : d ≡ 16 → (get_or s i 0 ≡ 59 → ⊥) → NumSays (Bad i)
+    pub digits_other : d ≡ 16 → (get_or s i 0 ≡ 59 → ⊥) → NumSays (Err (Bad i))
     digits_other e q = bad_at (tok_bad k w.n _ _ (begun_shut k w.n _ (digit_none k _ d is-d e)) (ne_eqb 59 (get_or s i 0) (λ z. q (sym z))))
 
-    pub digits_done : d ≡ 16 → get_or s i 0 ≡ 59 → is_char v ≡ true → NumSays (Got v (i + 1))
+    pub digits_done : d ≡ 16 → get_or s i 0 ≡ 59 → is_char v ≡ true → NumSays (got v (i + 1))
     unfolding okay
     digits_done e q c =
         let x = w.from in
@@ -238,7 +238,7 @@ module _ (k : Bool) (s : Bytes) (at v i spare : ℕ) (w : Counted k s at v i spa
         let z : begun_of k (w.n ++ get_or s i 0 ∷ []) ≡ false = begun_shut k w.n _ (digit_none k _ d is-d e) in
         record { says = record { value = w.n; is = w.value; far = omega arith; upto = omega arith; reads = w.same ∙ rw (add-one, drop-cons s i 0 h, z, y, eq-eqb 59 (get_or s i 0) (sym q)) } }
 
-    pub digits_none : d ≡ 16 → is_char v ≡ false → NumSays (Bad i)
+    pub digits_none : d ≡ 16 → is_char v ≡ false → NumSays (Err (Bad i))
     unfolding okay
     digits_none e c =
         let y : is_char (number (base_of k) 0 w.n) ≡ false = rw w.value c in
@@ -249,7 +249,7 @@ module _ (k : Bool) (s : Bytes) (at v i spare : ℕ) (w : Counted k s at v i spa
       is_digit : digit_of k (get_or s i 0) ≡ true
       is_digit = (digit_some k _ d is-d non_empty).0
 
-      pub digits-full : spare ≡ 0 → NumSays (Bad i)
+      pub digits-full : spare ≡ 0 → NumSays (Err (Bad i))
       digits-full e = let z = w.size in bad_at (tok_bad k w.n _ _ (begun_full k w.n _ (omega arith)) (digit_semi k _ is_digit))
 
       module _ (room : spare ≡ 0 → ⊥) (v' : ℕ) (is-v : v' ≡ v * base_of k + d) where
@@ -259,7 +259,7 @@ module _ (k : Bool) (s : Bytes) (at v i spare : ℕ) (w : Counted k s at v i spa
             let e : length w.n + suc (spare - 1) ≡ most_of k = omega arith in
             begun_is k w.n (get_or s i 0) (spare - 1) w.all is_digit e ∙ rw (w.value, (digit_some k _ d is-d non_empty).1, is-v)
 
-        pub digits-dead : alive_of k (spare - 1) v' ≡ false → NumSays (Bad i)
+        pub digits-dead : alive_of k (spare - 1) v' ≡ false → NumSays (Err (Bad i))
         digits-dead e = bad_at (tok_bad k w.n _ _ (now-is ∙ e) (digit_semi k _ is_digit))
 
         pub digits-next : alive_of k (spare - 1) v' ≡ true → Counted k s at v' (i + 1) (spare - 1)

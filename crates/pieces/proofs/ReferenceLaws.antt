@@ -16,12 +16,12 @@ use Rattle.exact.specs.Chain.{ret_p, and_then}
 use Rattle.exact.specs.Byte.{pick, lit_p}
 use Rattle.grammar.specs.Bytes.{Bytes, text}
 use Rattle.grammar.specs.Reference.{amp, lt, gt, quot, apos, named, decimal, hexadecimal, read_reference}
-use Rattle.pieces.specs.Says.{Says}
+use Rattle.std.specs.Prelude.{Err}
+use Rattle.scan.specs.declared.Stop.TheVariants.{Open}
+use Rattle.pieces.specs.Says.{Piece, Says}
 use Rattle.pieces.specs.Numerals.{numeral_p, value_of}
 use Rattle.pieces.specs.Parts.{hash_p, five_p}
 use Rattle.pieces.proofs.Answers.{last, moved}
-use Rattle.pieces.specs.declared.Piece.{Piece}
-use Rattle.pieces.specs.declared.Piece.TheVariants.{Open}
 
 -- other values for the same bytes
 lit_map : {A B : Type 0} (a : A) (g : A → B) (cs x : Bytes) → and_then (lit_p cs a x) (λ z. ret_p (g z)) ≡ and_then (lit_p {A = ℕ} cs 0 x) (λ z t. done (g a) t)
@@ -35,21 +35,21 @@ lit_map {A} {B} a g (c ∷ cs) (b ∷ r) = go (eqb c b) (lit_map a g cs r)
     go false h = refl
 
 module _ (s : Bytes) (at : ℕ) where
-  pub name_open : length s ≤ at → Says read_reference 1 s at Open (five_p (drop at s))
+  pub name_open : length s ≤ at → Says read_reference 1 s at (Err Open) (five_p (drop at s))
   unfolding five_p named_p
   name_open h = record { says = rw (drop_of_length-le s h) }
 
-  pub hash_open : length s ≤ at → Says read_reference 1 s at Open (hash_p (drop at s))
+  pub hash_open : length s ≤ at → Says read_reference 1 s at (Err Open) (hash_p (drop at s))
   unfolding hash_p
   hash_open h = record { says = rw (drop_of_length-le s h) }
 
-  pub ref_open : length s ≤ at → Says read_reference 1 s at Open (ref_p (drop at s))
+  pub ref_open : length s ≤ at → Says read_reference 1 s at (Err Open) (ref_p (drop at s))
   unfolding ref_p
   ref_open h = record { says = rw (drop_of_length-le s h) }
 
   module _ (h : at < length s) where
     -- a, and the end
-    pub name_a : get_or s at 0 ≡ 97 → length s - at < 2 → Says read_reference 1 s at Open (five_p (drop at s))
+    pub name_a : get_or s at 0 ≡ 97 → length s - at < 2 → Says read_reference 1 s at (Err Open) (five_p (drop at s))
     unfolding five_p named_p
     name_a e k = let j : length s ≤ suc at = omega arith in record { says = rw (drop-cons s at 0 h, e, drop_of_length-le s j) }
 

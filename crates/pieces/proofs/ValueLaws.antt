@@ -1,6 +1,6 @@
 -- The steps of the readers of items and values.
 use mathlib.Core.Path.{◌≡◌, refl, sym, subst, ◌∙◌}
-use mathlib.Core.List.{List, [], ◌∷◌}
+use mathlib.Core.List.{[], ◌∷◌}
 use mathlib.Core.Logic.{◌⊎◌}
 use mathlib.Core.Bool.{Bool, true, false, ◌&&◌, not}
 use Prim.Native.Nat.{ℕ, zero, suc, ◌+◌, ◌≤◌, ◌<◌}
@@ -24,19 +24,18 @@ use Rattle.grammar.specs.Bytes.{Bytes, within}
 use Rattle.grammar.specs.Character.{is_char}
 use Rattle.grammar.specs.Reference.{read_reference}
 use Rattle.grammar.specs.Value.{Item, raw, ref, banned}
-use Rattle.pieces.specs.Says.{Known, Says, step_of}
+use Rattle.std.specs.Prelude.{Ok, Err}
+use Rattle.pieces.specs.Says.{Piece, Known, Says}
 use Rattle.pieces.specs.Parts.{code_point, IsQuote, InValue, Plain, Ran}
-use Rattle.pieces.proofs.Answers.{last, Fails, pass, stepped}
+use Rattle.pieces.proofs.Answers.{last, stepped}
 use Rattle.pieces.proofs.CharacterLaws.{plain_quote}
-use Rattle.scan.specs.Pieces.{Got as StepSays}
-use Rattle.scan.specs.declared.Step.{Step}
-use Rattle.scan.specs.declared.Step.TheVariants.{Done, Open as Unended}
-use Rattle.pieces.specs.declared.Piece.{Piece}
-use Rattle.pieces.specs.declared.Piece.TheVariants.{Open}
+use Rattle.scan.specs.Pieces.{Step, Got as StepSays}
+use Rattle.scan.specs.declared.Stop.{Stop}
+use Rattle.scan.specs.declared.Stop.TheVariants.{Open}
 use mir.Val.{bool_byte}
 
 module _ (q : ℕ) (s : Bytes) (at : ℕ) where
-  pub item_open : length s ≤ at → Says code_point 1 s at Open (item_p q (drop at s))
+  pub item_open : length s ≤ at → Says code_point 1 s at (Err Open) (item_p q (drop at s))
   unfolding item_p
   item_open h = record { says = rw (drop_of_length-le s h) }
 
@@ -117,14 +116,14 @@ module _ (q : ℕ) (is-q : IsQuote q) where
       abbrev ValueSays : Step → Type 0
       ValueSays r = StepSays 1 s at r (value_p q (drop at s))
 
-      pub value-end : length s ≤ i → ValueSays Unended
+      pub value-end : length s ≤ i → ValueSays (Err Open)
       value-end h = record { says = w.same ∙ rw (drop_of_length-le s h) (go_end w.k) }
 
       pub value-ran : (j : ℕ) → Ran q s i j → InValue q s at j
       value-ran j x = let z = x.same w.k in let a = w.from in let b = x.from in record { k = z.0; from = omega arith; same = w.same ∙ z.1 }
 
       module _ (h : i < length s) where
-        pub value-stop : get_or s i 0 ≡ q → ValueSays (Done (i + 1))
+        pub value-stop : get_or s i 0 ≡ q → ValueSays (Ok (i + 1))
         value-stop e = let z = w.from in
             record { says = (w.k [], omega arith, omega arith, w.same ∙ rw (add-one, drop-cons s i 0 h) (go_stop w.k (get_or s i 0) (drop (suc i) s) e)) }
 
@@ -132,8 +131,8 @@ module _ (q : ℕ) (is-q : IsQuote q) where
           turned : value_p q (drop at s) ≡ and_then (item_p q (drop i s)) (λ x t. loop_p (turn_p q) (λ l. w.k (x ∷ l)) t)
           turned = w.same ∙ rw (drop-cons s i 0 h) (go_item w.k (get_or s i 0) (drop (suc i) s) ne)
 
-          pub value-fail : {p : Piece} {r : Step} → Fails p → r ≡ step_of p → Says code_point 1 s i p (item_p q (drop i s)) → ValueSays r
-          value-fail {p} x e g = let z : Says (λ (l : List Item). 0) 1 s at p (value_p q (drop at s)) = pass x g w.from (λ x t. loop_p (turn_p q) (λ l. w.k (x ∷ l)) t) turned in stepped e z
+          pub value-fail : {x : Stop} → Says code_point 1 s i (Err x) (item_p q (drop i s)) → ValueSays (Err x)
+          value-fail g = stepped g w.from (λ x t. loop_p (turn_p q) (λ l. w.k (x ∷ l)) t) turned
 
           pub value-next : {c e : ℕ} → Known code_point 1 s i c e (item_p q (drop i s)) → InValue q s at e
           value-next g = let z = w.from in let y = g.far in let x = g.reads in record { k = λ l. w.k (g.value ∷ l); from = omega arith; same = turned ∙ rw x }

@@ -5,11 +5,12 @@ ghost use Rattle.exact.specs.Chain.{ret_p};
 ghost use Rattle.exact.specs.Byte.{on_p};
 ghost use Rattle.grammar.specs.Bytes.{within};
 ghost use Rattle.grammar.specs.Value.{banned};
-ghost use Rattle.model.specs.Characters.{plain_byte, char_p};
+ghost use Rattle.model.specs.Characters.{next6, plain_byte, char_p};
 ghost use Rattle.pieces.specs.Says.{Says};
 ghost use Rattle.pieces.specs.Parts.{text_byte, two_p, three_p, four_p};
 
-use crate::Piece;
+use crate::{Character, Piece};
+use scan::Stop;
 
 // Whether b may stand raw in a value as a character of one byte, if it is not the quote.
 fn is_text(b: u8) -> bool
@@ -45,16 +46,19 @@ fn tail(s: &[u8], at: usize, low: u8, high: u8) -> Piece
     ensures { Says (λ (b : ℕ). b) 1 s.now at result (on_p (within low high) (λ b. ret_p b) (drop at s.now)) }
 {
     if s.len() <= at {
-        return Piece::Open;
+        return Err(Stop::Open);
     }
     let b = s[at];
     if b < low {
-        return Piece::Bad(at);
+        return Err(Stop::Bad(at));
     }
     if high < b {
-        return Piece::Bad(at);
+        return Err(Stop::Bad(at));
     }
-    Piece::Got(crate::wide(b), at + 1)
+    Ok(Character {
+        code_point: crate::wide(b),
+        next: at + 1,
+    })
 }
 
 // The bound of the byte behind b: `there` behind the byte odd, else `usual`.
@@ -77,16 +81,24 @@ fn top(c: usize) -> u8
     0xBF
 }
 
+// The number so far, with the six bits of one byte more.
+fn next6(v: usize, c: usize) -> usize
+    requires { (v ≤ 65535) × (128 ≤ c) × (c ≤ 191) }
+    ensures { result ≡ next6 v c }
+{
+    v * 64 + (c - 0x80)
+}
+
 // Behind the lead b of two bytes.
 fn two(s: &[u8], at: usize, b: u8) -> Piece
     requires { (194 ≤ b) × (b ≤ 223) }
     ensures { Says (λ (c : ℕ). c) 1 s.now at result (two_p b (drop at s.now)) }
 {
-    let r = tail(s, at, 0x80, 0xBF);
-    let Piece::Got(c, e) = r else {
-        return r;
-    };
-    Piece::Got((crate::wide(b) - 0xC0) * 64 + (c - 0x80), e)
+    let c = tail(s, at, 0x80, 0xBF)?;
+    Ok(Character {
+        code_point: next6(crate::wide(b) - 0xC0, c.code_point),
+        next: c.next,
+    })
 }
 
 // Behind the lead b of three bytes.
@@ -94,23 +106,18 @@ fn three(s: &[u8], at: usize, b: u8) -> Piece
     requires { (224 ≤ b) × (b ≤ 239) }
     ensures { Says (λ (c : ℕ). c) 1 s.now at result (three_p b (drop at s.now)) }
 {
-    let r = tail(
+    let c = tail(
         s,
         at,
         bound(b, 0xE0, 0xA0, 0x80),
         bound(b, 0xED, 0x9F, 0xBF),
-    );
-    let Piece::Got(c, e) = r else {
-        return r;
-    };
-    let r = tail(s, e, 0x80, bound(b, 0xEF, top(c), 0xBF));
-    let Piece::Got(d, f) = r else {
-        return r;
-    };
-    Piece::Got(
-        ((crate::wide(b) - 0xE0) * 64 + (c - 0x80)) * 64 + (d - 0x80),
-        f,
-    )
+    )?;
+    let d = tail(s, c.next, 0x80, bound(b, 0xEF, top(c.code_point), 0xBF))?;
+    let v = next6(crate::wide(b) - 0xE0, c.code_point);
+    Ok(Character {
+        code_point: next6(v, d.code_point),
+        next: d.next,
+    })
 }
 
 // Behind the lead b of four bytes.
@@ -118,27 +125,19 @@ fn four(s: &[u8], at: usize, b: u8) -> Piece
     requires { (240 ≤ b) × (b ≤ 244) }
     ensures { Says (λ (c : ℕ). c) 1 s.now at result (four_p b (drop at s.now)) }
 {
-    let r = tail(
+    let c = tail(
         s,
         at,
         bound(b, 0xF0, 0x90, 0x80),
         bound(b, 0xF4, 0x8F, 0xBF),
-    );
-    let Piece::Got(c, e) = r else {
-        return r;
-    };
-    let r = tail(s, e, 0x80, 0xBF);
-    let Piece::Got(d, f) = r else {
-        return r;
-    };
-    let r = tail(s, f, 0x80, 0xBF);
-    let Piece::Got(g, h) = r else {
-        return r;
-    };
-    Piece::Got(
-        (((crate::wide(b) - 0xF0) * 64 + (c - 0x80)) * 64 + (d - 0x80)) * 64 + (g - 0x80),
-        h,
-    )
+    )?;
+    let d = tail(s, c.next, 0x80, 0xBF)?;
+    let e = tail(s, d.next, 0x80, 0xBF)?;
+    let v = next6(crate::wide(b) - 0xF0, c.code_point);
+    Ok(Character {
+        code_point: next6(next6(v, d.code_point), e.code_point),
+        next: e.next,
+    })
 }
 
 /// One character that may stand raw in a value in these quotes.
@@ -146,15 +145,18 @@ pub fn character(s: &[u8], at: usize, quote: u8) -> Piece
     ensures { Says (λ (c : ℕ). c) 1 s.now at result (char_p (banned quote) (drop at s.now)) }
 {
     if s.len() <= at {
-        return Piece::Open;
+        return Err(Stop::Open);
     }
     let b = s[at];
     match b {
         0..=0x7F => {
             if is_plain(b, quote) {
-                return Piece::Got(crate::wide(b), at + 1);
+                return Ok(Character {
+                    code_point: crate::wide(b),
+                    next: at + 1,
+                });
             }
-            return Piece::Bad(at);
+            return Err(Stop::Bad(at));
         }
         0xC2..=0xDF => {
             return two(s, at + 1, b);
@@ -166,7 +168,7 @@ pub fn character(s: &[u8], at: usize, quote: u8) -> Piece
             return four(s, at + 1, b);
         }
         _ => {
-            return Piece::Bad(at);
+            return Err(Stop::Bad(at));
         }
     }
 }

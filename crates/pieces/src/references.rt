@@ -1,14 +1,16 @@
 // References: what stands behind an `&`.
 // Of a number, the digits so far are kept only while some character can still be named.
-ghost use Rattle.std.specs.Prelude.{◌≡◌, true, ◌&&◌, ◌||◌, not, ◌+◌, ◌*◌, ◌≤◌, ◌<◌, drop, eqb, leb};
+ghost use Rattle.std.specs.Prelude.{◌≡◌, true, ◌&&◌, ◌||◌, not, ℕ, ◌+◌, ◌*◌, ◌≤◌, ◌<◌, length, drop, eqb, leb};
 ghost use Rattle.grammar.specs.Character.{is_char};
 ghost use Rattle.grammar.specs.Reference.{read_reference};
 ghost use Rattle.model.specs.References.{ref_p};
+ghost use Rattle.scan.specs.Pieces.{word_p};
 ghost use Rattle.pieces.specs.Says.{Says};
 ghost use Rattle.pieces.specs.Numerals.{base_of, most_of, alive_of, worth_of, numeral_p, value_of};
 ghost use Rattle.pieces.specs.Parts.{hash_p, five_p};
 
-use crate::Piece;
+use crate::{Character, Piece};
+use scan::Stop;
 
 /// Whether c is a character of XML.
 pub fn is_char(c: usize) -> bool
@@ -118,25 +120,37 @@ fn number(s: &[u8], at: usize, hex: bool) -> Piece
         let d = worth(b, hex);
         if d == 16 {
             if b != b';' {
-                return Piece::Bad(i);
+                return Err(Stop::Bad(i));
             }
             if is_char(v) {
-                return Piece::Got(v, i + 1);
+                return Ok(Character {
+                    code_point: v,
+                    next: i + 1,
+                });
             }
-            return Piece::Bad(i);
+            return Err(Stop::Bad(i));
         }
         if left == 0 {
-            return Piece::Bad(i);
+            return Err(Stop::Bad(i));
         }
         let w = grow(v, d, hex);
         if !is_alive(w, left - 1, hex) {
-            return Piece::Bad(i);
+            return Err(Stop::Bad(i));
         }
         v = w;
         left -= 1;
         i += 1;
     }
-    Piece::Open
+    Err(Stop::Open)
+}
+
+// A word that stands for a code point.
+fn word(s: &[u8], at: usize, bytes: &[u8], code_point: usize) -> Piece
+    requires { at ≤ length s.now }
+    ensures { Says (λ (x : ℕ). code_point) (length bytes.now) s.now at result (word_p bytes.now (drop at s.now)) }
+{
+    let next = scan::literal(s, at, bytes)?;
+    Ok(Character { code_point, next })
 }
 
 // One of the five names.
@@ -144,25 +158,25 @@ fn named(s: &[u8], at: usize) -> Piece
     ensures { Says read_reference 1 s.now at result (five_p (drop at s.now)) }
 {
     if s.len() <= at {
-        return Piece::Open;
+        return Err(Stop::Open);
     }
     let b = s[at];
     if b == b'a' {
         if s.len() - at < 2 {
-            return Piece::Open;
+            return Err(Stop::Open);
         }
         if s[at + 1] == b'm' {
-            return crate::meaning(38, scan::literal(s, at + 1, b"mp;"));
+            return word(s, at + 1, b"mp;", 38);
         }
-        return crate::meaning(39, scan::literal(s, at + 1, b"pos;"));
+        return word(s, at + 1, b"pos;", 39);
     }
     if b == b'l' {
-        return crate::meaning(60, scan::literal(s, at, b"lt;"));
+        return word(s, at, b"lt;", 60);
     }
     if b == b'g' {
-        return crate::meaning(62, scan::literal(s, at, b"gt;"));
+        return word(s, at, b"gt;", 62);
     }
-    crate::meaning(34, scan::literal(s, at, b"quot;"))
+    word(s, at, b"quot;", 34)
 }
 
 // Behind `&#`.
@@ -170,7 +184,7 @@ fn hash(s: &[u8], at: usize) -> Piece
     ensures { Says read_reference 1 s.now at result (hash_p (drop at s.now)) }
 {
     if s.len() <= at {
-        return Piece::Open;
+        return Err(Stop::Open);
     }
     if s[at] == b'x' {
         return number(s, at + 1, true);
@@ -183,7 +197,7 @@ pub fn reference(s: &[u8], at: usize) -> Piece
     ensures { Says read_reference 1 s.now at result (ref_p (drop at s.now)) }
 {
     if s.len() <= at {
-        return Piece::Open;
+        return Err(Stop::Open);
     }
     if s[at] == b'#' {
         return hash(s, at + 1);

@@ -10,7 +10,7 @@ ghost use Rattle.pieces.specs.Parts.{code_point, IsQuote, Plain, Ran};
 
 use crate::Piece;
 use crate::characters::is_plain;
-use scan::Step;
+use scan::{Step, Stop};
 
 /// A single or a double quote.
 pub fn is_quote(b: u8) -> bool
@@ -27,7 +27,7 @@ pub fn item(s: &[u8], at: usize, q: u8) -> Piece
     ensures { Says code_point 1 s.now at result (item_p q (drop at s.now)) }
 {
     if s.len() <= at {
-        return Piece::Open;
+        return Err(Stop::Open);
     }
     if s[at] == b'&' {
         return crate::references::reference(s, at + 1);
@@ -120,16 +120,13 @@ pub fn value(s: &[u8], at: usize, q: u8) -> Step
     while i < s.len() {
         let j = passed(s, i, q);
         if s.len() <= j {
-            return Step::Open;
+            return Err(Stop::Open);
         }
         if s[j] == q {
-            return Step::Done(j + 1);
+            return Ok(j + 1);
         }
-        let p = piece(s, j, q);
-        let Piece::Got(c, e) = p else {
-            return crate::step(p);
-        };
-        i = e;
+        let c = piece(s, j, q)?;
+        i = c.next;
     }
-    Step::Open
+    Err(Stop::Open)
 }

@@ -1,5 +1,6 @@
 -- The invariant: the comment goes on at `i` after the marks read so far.
 use native.Mathlib.Omega.{arith}
+use Rattle.scan.proofs.Chain.{exits}
 use Rattle.pieces.proofs.Answers.{known}
 use Rattle.fillers.proofs.CommentLaws.{marks_start, marks_end, marks_ran, marks-cut, marks-shut, marks-fail, marks-next, past_from}
 use Rattle.fillers.proofs.comments.marks.Goals as goal
@@ -19,14 +20,14 @@ returns-then-s-k c = marks-cut _ _ _ (marks_ran _ _ _ c.loop-i.invariant _ c.run
 pub returns-then-s-k-eq45 : goal.returns-then-s-k-eq45
 returns-then-s-k-eq45 c = marks-shut _ _ _ (marks_ran _ _ _ c.loop-i.invariant _ c.run-j.ensures) c.if-s-j.false _ c.past_dash-k.ensures c.if-s-k.false c.if-s-k-eq45.true c.byte.ensures
 
-pub returns-in_default : goal.returns-in_default
-returns-in_default c = marks-fail _ _ _ (marks_ran _ _ _ c.loop-i.invariant _ c.run-j.ensures) c.if-s-j.false _ c.past_dash-k.ensures c.if-s-k.false c.if-s-k-eq45.false c.in_default.not-Got c.step.ensures c.character-p.ensures
+pub returns-in_err-c : goal.returns-in_err-c
+returns-in_err-c c = rw (exits c.from_residual.ensures.1) (marks-fail _ _ _ (marks_ran _ _ _ c.loop-i.invariant _ c.run-j.ensures) c.if-s-j.false _ c.past_dash-k.ensures c.if-s-k.false c.if-s-k-eq45.false c.in_err-c.ensures)
 
 pub loop-i-smaller : goal.loop-i-smaller
-loop-i-smaller c = let g = known c.in-Got.is c.character-p.ensures in let y = g.far in let x = past_from c.past_dash-k.ensures in omega arith
+loop-i-smaller c = let g = known c.in_ok-c.was c.character.ensures in let y = g.far in let x = past_from c.past_dash-k.ensures in omega arith
 
 pub loop-i-preserved : goal.loop-i-preserved
-loop-i-preserved c = marks-next _ _ _ (marks_ran _ _ _ c.loop-i.invariant _ c.run-j.ensures) c.if-s-j.false _ c.past_dash-k.ensures c.if-s-k.false c.if-s-k-eq45.false (known c.in-Got.is c.character-p.ensures)
+loop-i-preserved c = marks-next _ _ _ (marks_ran _ _ _ c.loop-i.invariant _ c.run-j.ensures) c.if-s-j.false _ c.past_dash-k.ensures c.if-s-k.false c.if-s-k-eq45.false (known c.in_ok-c.was c.character.ensures)
 
 pub returns : goal.returns
 returns c = marks_end _ _ _ c.loop-i.invariant c.loop-i-test.false

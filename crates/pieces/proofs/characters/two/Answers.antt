@@ -1,18 +1,16 @@
 -- The byte behind the lead, by its range; then the number is the model's.
 use native.Mathlib.Omega.{arith}
+use Rattle.scan.proofs.Chain.{exits}
 use Rattle.pieces.proofs.Answers.{known}
 use Rattle.pieces.proofs.CharacterLaws.{in_tail, two_fails, two_read}
 use Rattle.pieces.proofs.characters.two.Goals as goal
 
 -- The byte behind the lead, by its range; then the number is the model's.
-pub returns-in_default : goal.returns-in_default
-returns-in_default c = two_fails _ _ _ c.in_default.not-Got c.tail-r.ensures
+pub returns-in_err-c : goal.returns-in_err-c
+returns-in_err-c c = rw (exits c.from_residual.ensures.1) (two_fails _ _ _ c.in_err-c.ensures)
 
-pub overflow_sub-result-2 : goal.overflow_sub-result-2
-overflow_sub-result-2 c = let z = in_tail (known c.in-Got.is c.tail-r.ensures) in omega arith
-
-pub overflow_add-result : goal.overflow_add-result
-overflow_add-result c = let z = in_tail (known c.in-Got.is c.tail-r.ensures) in omega arith
+pub next6-requires : goal.next6-requires
+next6-requires c = let z = in_tail (known c.in_ok-c.was c.tail.ensures) in (omega arith, z.0, z.1)
 
 pub returns : goal.returns
-returns c = rw c.wide.ensures (two_read _ _ _ (known c.in-Got.is c.tail-r.ensures))
+returns c = rw (c.next6.ensures, c.wide.ensures) (two_read _ _ _ (known c.in_ok-c.was c.tail.ensures))

@@ -1,5 +1,4 @@
 -- Each branch reads the word that its first bytes leave.
-use Rattle.pieces.proofs.Answers.{spoken}
 use Rattle.pieces.proofs.ReferenceLaws.{name_open, name_a, name-amp, name-apos, name_lt, name_gt, name_quot}
 use Rattle.pieces.proofs.references.named.Goals as goal
 
@@ -11,16 +10,16 @@ pub returns-then-s-at-lt2 : goal.returns-then-s-at-lt2
 returns-then-s-at-lt2 c = name_a _ _ c.if-s-at.false c.if-b-eq97.true c.if-s-at-lt2.true
 
 pub returns-then-s-at-eq109 : goal.returns-then-s-at-eq109
-returns-then-s-at-eq109 c = name-amp _ _ c.if-s-at.false c.if-b-eq97.true c.if-s-at-lt2.false c.if-s-at-eq109.true (spoken 38 c.meaning.ensures c.literal.ensures)
+returns-then-s-at-eq109 c = name-amp _ _ c.if-s-at.false c.if-b-eq97.true c.if-s-at-lt2.false c.if-s-at-eq109.true c.word.ensures
 
 pub returns-then-b-eq97 : goal.returns-then-b-eq97
-returns-then-b-eq97 c = name-apos _ _ c.if-s-at.false c.if-b-eq97.true c.if-s-at-lt2.false c.if-s-at-eq109.false (spoken 39 c.meaning-then-b-eq97.ensures c.literal-then-b-eq97.ensures)
+returns-then-b-eq97 c = name-apos _ _ c.if-s-at.false c.if-b-eq97.true c.if-s-at-lt2.false c.if-s-at-eq109.false c.word-then-b-eq97.ensures
 
 pub returns-then-b-eq108 : goal.returns-then-b-eq108
-returns-then-b-eq108 c = name_lt _ _ c.if-s-at.false c.if-b-eq108.true (spoken 60 c.meaning-then-b-eq108.ensures c.literal-then-b-eq108.ensures)
+returns-then-b-eq108 c = name_lt _ _ c.if-s-at.false c.if-b-eq108.true c.word-then-b-eq108.ensures
 
 pub returns-then-b-eq103 : goal.returns-then-b-eq103
-returns-then-b-eq103 c = name_gt _ _ c.if-s-at.false c.if-b-eq103.true (spoken 62 c.meaning-then-b-eq103.ensures c.literal-then-b-eq103.ensures)
+returns-then-b-eq103 c = name_gt _ _ c.if-s-at.false c.if-b-eq103.true c.word-then-b-eq103.ensures
 
 pub returns : goal.returns
-returns c = name_quot _ _ c.if-s-at.false c.if-b-eq97.false c.if-b-eq108.false c.if-b-eq103.false (spoken 34 c.meaning-2.ensures c.literal-2.ensures)
+returns c = name_quot _ _ c.if-s-at.false c.if-b-eq97.false c.if-b-eq108.false c.if-b-eq103.false c.word-2.ensures
