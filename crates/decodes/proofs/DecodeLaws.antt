@@ -13,22 +13,13 @@ use Rattle.value.specs.Loose.{Loose}
 use Rattle.decodes.specs.Walk.{Taken, Walked, walked_start, walked_step, walked_end, walked_fail}
 use Rattle.decodes.specs.Units.{UnitCase, UnitSays}
 use Rattle.decodes.specs.Decoded.{LengthCase, LengthSays, Put, PutInRoom, Decoded}
-use Rattle.decodes.specs.declared.decode.Length.{Length}
-use Rattle.decodes.specs.declared.decode.Length.TheVariants.{Is, Not}
+use Rattle.std.specs.Prelude.{Option, Some, None}
 use Rattle.value.proofs.Theorems.{loose_one}
-use Rattle.pieces.proofs.Answers.{Fails, never}
-use Rattle.pieces.specs.declared.Piece.{Piece}
-use Rattle.pieces.specs.declared.Piece.TheVariants.{Got, Open, Bad}
+use Rattle.pieces.specs.declared.Character.{Character}
 
 -- a step that is known
-pub taken : {s : Bytes} {at : ℕ} {r : Piece} {c e : ℕ} → r ≡ Got c e → UnitSays s at r → Taken s at c e
-taken {s} {at} q g = subst (λ (r : Piece). UnitCase s at r) q g.says
-
--- no step: what stands there is no items
-pub untaken : {s : Bytes} {at : ℕ} (r : Piece) → Fails r → UnitSays s at r → (l : List Item) → Loose (drop at s) l → ⊥
-untaken (Got c e) f g = never f
-untaken Open f g = g.says
-untaken (Bad p) f g = g.says
+pub taken : {s : Bytes} {at : ℕ} {r : Option Character} {c : Character} → r ≡ Some c → UnitSays s at r → Taken s at c.code_point c.next
+taken {s} {at} q g = subst (λ (r : Option Character). UnitCase s at r) q g.says
 
 -- n bytes were read up to i
 pub record Counted (src : Bytes) (i n : ℕ) : Type 0 where
@@ -45,11 +36,11 @@ counted_more {c = c} k t h = record { bytes = k.bytes ++ utf8 c; walked = walked
 pub counted_room : {src : Bytes} {i n c e m : ℕ} → Counted src i n → Taken src i c e → m ≡ length (utf8 c) → n + m ≤ length src
 counted_room k t h = let a = k.count in let b = k.walked.no_longer in let c = t.no_longer in let d = t.upto in omega arith
 
-pub counted_end : {src : Bytes} {i n : ℕ} → Counted src i n → length src ≤ i → LengthSays src (Is n)
+pub counted_end : {src : Bytes} {i n : ℕ} → Counted src i n → length src ≤ i → LengthSays src (Some n)
 counted_end k h = let (l, x, e) = walked_end k.walked h in record { says = (l, x, k.count ∙ ap length (sym e)) }
 
-pub counted_fail : {src : Bytes} {i n : ℕ} → Counted src i n → {p : Piece} → Fails p → UnitSays src i p → LengthSays src Not
-counted_fail k {p} f g = record { says = walked_fail k.walked (untaken p f g) }
+pub counted_fail : {src : Bytes} {i n : ℕ} → Counted src i n → UnitSays src i None → LengthSays src None
+counted_fail k g = record { says = walked_fail k.walked g.says }
 
 -- bytes put one behind the other
 set_behind : (x z : Bytes) (y b : ℕ) → set (x ++ y ∷ z) (length x) b ≡ x ++ b ∷ z
@@ -138,7 +129,7 @@ filled_more {src} {old} {new} {new'} {i} {n} {c} {e} {r} k t p = record {
         let rest : drop r new ≡ drop r old = ap (λ (j : ℕ). drop j new) p.next ∙ sym (drop-drop (length (utf8 c)) n new) ∙ ap (drop (length (utf8 c))) kept ∙ drop-drop (length (utf8 c)) n old ∙ ap (λ (j : ℕ). drop j old) (sym p.next) in
         q.bytes ∙ ap (λ (l : Bytes). l ++ (utf8 c ++ drop r new)) first ∙ ap (λ (l : Bytes). v ++ (utf8 c ++ l)) rest ∙ sym (append_assoc v (utf8 c) (drop r old))
 
-pub filled_end : {src old new : Bytes} {i n : ℕ} → Filled src old new i n → length src ≤ i → Decoded src old new (Is n)
+pub filled_end : {src old new : Bytes} {i n : ℕ} → Filled src old new i n → length src ≤ i → Decoded src old new (Some n)
 filled_end {src} {old} {new} {i} {n} k h = record { long = counted_end k.counted h; bytes = bytes }
   where
     bytes : (l : List Item) → Loose src l → length (read_value l) ≤ length old → new ≡ read_value l ++ drop (length (read_value l)) old
@@ -148,12 +139,12 @@ filled_end {src} {old} {new} {i} {n} k h = record { long = counted_end k.counted
         let c : n ≡ length (read_value l) = k.counted.count ∙ ap length (sym o) in
         rw (o, ← k.counted.count) (k.stands (omega arith))
 
-pub filled_fail : {src old new : Bytes} {i n : ℕ} → Filled src old new i n → {p : Piece} → Fails p → UnitSays src i p → Decoded src old new Not
-filled_fail k f g = let z = counted_fail k.counted f g in record { long = z; bytes = λ l x h. absurd (z.says l x) }
+pub filled_fail : {src old new : Bytes} {i n : ℕ} → Filled src old new i n → UnitSays src i None → Decoded src old new None
+filled_fail k g = let z = counted_fail k.counted g in record { long = z; bytes = λ l x h. absurd (z.says l x) }
 
 -- a length that is known, and none
-pub length_known : {w : Bytes} {l : Length} {n : ℕ} → l ≡ Is n → LengthSays w l → (k : List Item) × Loose w k × (n ≡ length (read_value k))
-length_known {w} q g = subst (λ (l : Length). LengthCase w l) q g.says
+pub length_known : {w : Bytes} {l : Option ℕ} {n : ℕ} → l ≡ Some n → LengthSays w l → (k : List Item) × Loose w k × (n ≡ length (read_value k))
+length_known {w} q g = subst (λ (l : Option ℕ). LengthCase w l) q g.says
 
-pub no_length : {w : Bytes} {l : Length} → l ≡ Not → LengthSays w l → (k : List Item) → Loose w k → ⊥
-no_length {w} q g = subst (λ (l : Length). LengthCase w l) q g.says
+pub no_length : {w : Bytes} {l : Option ℕ} → l ≡ None → LengthSays w l → (k : List Item) → Loose w k → ⊥
+no_length {w} q g = subst (λ (l : Option ℕ). LengthCase w l) q g.says

@@ -24,8 +24,7 @@ use Rattle.shapes.proofs.VersionLaws.{too_long}
 use Rattle.value.specs.Numbers.{read, unread, GuidReads, VersionReads}
 use Rattle.value.specs.Ids.{no_id, id_read, IdReads}
 use Rattle.value.proofs.IdLaws.{guid_long, id_bytes, id_zeros}
-use Rattle.decodes.specs.declared.decode.Length.{Length}
-use Rattle.decodes.specs.declared.decode.Length.TheVariants.{Is, Not}
+use Rattle.std.specs.Prelude.{Option, Some, None}
 use Rattle.value.specs.declared.id.Guid.{Guid}
 use Rattle.decodes.proofs.DecodeLaws.{Putting, putting_more, putting_end, length_known, no_length}
 use Rattle.decodes.proofs.NumberLaws.{plain_read}
@@ -83,18 +82,18 @@ guid_there {w} {i} (read l x q) = read l x (ap (λ (i : Guid). i.there) q ∙ th
 guid_there (unread n q) = unread n (ap (λ (i : Guid). i.there) q)
 
 -- by what was decoded
-module _ {w new : Bytes} {k : Length} (d : Decoded w (replicate 36 0) new k) where
-  pub id_unread : k ≡ Not → {i : Guid} → i ≡ no_id → IdReads w i
+module _ {w new : Bytes} {k : Option ℕ} (d : Decoded w (replicate 36 0) new k) where
+  pub id_unread : k ≡ None → {i : Guid} → i ≡ no_id → IdReads w i
   id_unread q f = unread (no_length q d.long) f
 
-  pub id_other : {n : ℕ} → k ≡ Is n → (n ≡ 36 → ⊥) → {i : Guid} → i ≡ no_id → IdReads w i
+  pub id_other : {n : ℕ} → k ≡ Some n → (n ≡ 36 → ⊥) → {i : Guid} → i ≡ no_id → IdReads w i
   id_other q z f = let (l, x, e) = length_known q d.long in read l x (id_zeros (read_value l) refl (not_so (guid_of (read_value l)) (λ g. z (e ∙ guid_long (read_value l) g))) f)
     where
       not_so : (t : Bool) → (t ≡ true → ⊥) → t ≡ false
       not_so true h = absurd (h refl)
       not_so false h = refl
 
-  module _ {n : ℕ} (q : k ≡ Is n) (z : n ≡ 36) where
+  module _ {n : ℕ} (q : k ≡ Some n) (z : n ≡ 36) where
     same : (l : List Item) × Loose w l × (new ≡ read_value l)
     same =
         let (l, x, e) = length_known q d.long in
@@ -107,14 +106,14 @@ module _ {w new : Bytes} {k : Length} (d : Decoded w (replicate 36 0) new k) whe
     id_none g e f = let (l, x, o) = same in read l x (id_zeros (read_value l) (g ∙ ap guid_of o) e f)
 
 -- a version is no longer than its decoded bytes may be
-module _ {w new : Bytes} {k : Length} (d : Decoded w (replicate 7 0) new k) where
-  pub version_unread : k ≡ Not → VersionReads w false
+module _ {w new : Bytes} {k : Option ℕ} (d : Decoded w (replicate 7 0) new k) where
+  pub version_unread : k ≡ None → VersionReads w false
   version_unread q = unread (no_length q d.long) refl
 
-  pub version_other : {n : ℕ} → k ≡ Is n → 7 < n → VersionReads w false
+  pub version_other : {n : ℕ} → k ≡ Some n → 7 < n → VersionReads w false
   version_other q h = let (l, x, e) = length_known q d.long in read l x (sym (too_long (read_value l) (omega arith)))
 
-  pub version_read : {n : ℕ} → k ≡ Is n → n ≤ 7 → {r : Bool} → r ≡ version_of (take n new) → VersionReads w r
+  pub version_read : {n : ℕ} → k ≡ Some n → n ≤ 7 → {r : Bool} → r ≡ version_of (take n new) → VersionReads w r
   version_read {n} q h g =
       let (l, x, e) = length_known q d.long in
       let o : take n new ≡ read_value l = ap (take n) (d.bytes l x (omega arith)) ∙ ap (λ (j : ℕ). take j (read_value l ++ drop (length (read_value l)) (replicate 7 0))) e ∙ take-append_seam (read_value l) (drop (length (read_value l)) (replicate 7 0)) in

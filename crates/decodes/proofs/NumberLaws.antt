@@ -11,17 +11,13 @@ use Rattle.grammar.specs.Value.{read_value}
 use Rattle.numerals.specs.Scan.{run, step, start}
 use Rattle.numerals.specs.declared.scan.Scan.{Scan}
 use Rattle.numerals.proofs.Theorems.{scanned_on}
-use Rattle.pieces.proofs.Answers.{Fails}
-use Rattle.pieces.specs.declared.Piece.{Piece}
+use Rattle.std.specs.Prelude.{Option, Some, None}
 use Rattle.decodes.specs.Walk.{Taken, Walked, walked_start, walked_step, walked_end, walked_fail}
 use Rattle.decodes.specs.Plain.{plain}
 use Rattle.decodes.proofs.Plain.{plain_reads}
 use Rattle.decodes.specs.Units.{UnitSays}
 use Rattle.value.specs.Numbers.{Reads, read, unread}
 use Rattle.decodes.specs.Walked.{WalkCase, WalkSays}
-use Rattle.decodes.specs.declared.numbers.Walk.{Walk}
-use Rattle.decodes.specs.declared.numbers.Walk.TheVariants.{Read, Unread}
-use Rattle.decodes.proofs.DecodeLaws.{untaken}
 
 -- what is said of the bytes of a plain value is said of what it reads as
 pub plain_read : {A : Type 0} {says : Bytes → A → Type 0} {none : A} {w : Bytes} {p : Bool} {r : A} → p ≡ plain w → p ≡ true → says w r → Reads says none w r
@@ -40,16 +36,16 @@ scanned_none src e = record { bytes = []; walked = walked_start src; state = e }
 pub scanned_next : {src : Bytes} {i c e : ℕ} {s s' : Scan} → Scanned src i s → Taken src i c e → s' ≡ run step s (utf8 c) → Scanned src e s'
 scanned_next {c = c} k t g = record { bytes = k.bytes ++ utf8 c; walked = walked_step k.walked t; state = g ∙ ap (λ (s : Scan). run step s (utf8 c)) k.state ∙ sym (scanned_on Scan step start k.bytes (utf8 c)) }
 
-pub scanned_end : {src : Bytes} {i : ℕ} {s : Scan} → Scanned src i s → length src ≤ i → WalkSays src (Read s)
+pub scanned_end : {src : Bytes} {i : ℕ} {s : Scan} → Scanned src i s → length src ≤ i → WalkSays src (Some s)
 scanned_end {src} k h = let (l, x, e) = walked_end k.walked h in let n : length (read_value l) ≤ length src = let a = k.walked.no_longer in let b = k.walked.upto in let c = ap length e in omega arith in record { says = (l, x, k.state ∙ ap (run step start) (sym e), n) }
 
-pub scanned_fail : {src : Bytes} {i : ℕ} {s : Scan} → Scanned src i s → {p : Piece} → Fails p → UnitSays src i p → WalkSays src Unread
-scanned_fail k {p} f g = record { says = walked_fail k.walked (untaken p f g) }
+pub scanned_fail : {src : Bytes} {i : ℕ} {s : Scan} → Scanned src i s → UnitSays src i None → WalkSays src None
+scanned_fail k g = record { says = walked_fail k.walked g.says }
 
 -- what is said of a scan, by the walk
-module _ {A : Type 0} (says : Bytes → A → Type 0) (none : A) {w : Bytes} {p : Walk} (g : WalkSays w p) where
-  pub walk_read : {s : Scan} → p ≡ Read s → {r : A} → ((v : Bytes) → length v ≤ length w → s ≡ run step start v → says v r) → Reads says none w r
-  walk_read q f = let (l, x, e, n) = subst (λ (p : Walk). WalkCase w p) q g.says in read l x (f (read_value l) n e)
+module _ {A : Type 0} (says : Bytes → A → Type 0) (none : A) {w : Bytes} {p : Option Scan} (g : WalkSays w p) where
+  pub walk_read : {s : Scan} → p ≡ Some s → {r : A} → ((v : Bytes) → length v ≤ length w → s ≡ run step start v → says v r) → Reads says none w r
+  walk_read q f = let (l, x, e, n) = subst (λ (p : Option Scan). WalkCase w p) q g.says in read l x (f (read_value l) n e)
 
-  pub walk_none : p ≡ Unread → {r : A} → r ≡ none → Reads says none w r
-  walk_none q e = unread (subst (λ (p : Walk). WalkCase w p) q g.says) e
+  pub walk_none : p ≡ None → {r : A} → r ≡ none → Reads says none w r
+  walk_none q e = unread (subst (λ (p : Option Scan). WalkCase w p) q g.says) e

@@ -21,8 +21,7 @@ use Rattle.value.specs.Asking.{in_scratch, Told, handed, paper, Answer, no_value
 use Rattle.value.proofs.AsRead.{raw_as_read_iff}
 use Rattle.decodes.specs.Plain.{plain}
 use Rattle.decodes.proofs.Plain.{plain_reads}
-use Rattle.decodes.specs.declared.decode.Length.{Length}
-use Rattle.decodes.specs.declared.decode.Length.TheVariants.{Not}
+use Rattle.std.specs.Prelude.{Option, None}
 use Rattle.value.specs.declared.text.Span.{Span}
 use Rattle.value.specs.declared.text.Words.{Words}
 use Rattle.value.specs.declared.text.Words.TheVariants.{Absent, Present}
@@ -38,7 +37,7 @@ undenied true h = refl
 undenied false h = clash h
 
 module _ (w : Bytes) (p : Span) (old : Bytes) where
-  pub answer_not : {l : Length} → l ≡ Not → LengthSays w l → Answer w p old old (paper (No 6))
+  pub answer_not : {l : Option ℕ} → l ≡ None → LengthSays w l → Answer w p old old (paper (No 6))
   answer_not f g = no_value (λ v x. let (k, y, e, o) = text_loose x in no_length f g k y) refl refl
 
   pub answer_unquoted : {q : Bool} → q ≡ quotable w → not q ≡ true → Answer w p old old (paper (No 6))
@@ -61,7 +60,7 @@ module _ (w : Bytes) (p : Span) (old : Bytes) where
     pub answer_short : r ≡ false → {n : ℕ} → (l : List Item) × Loose w l × (n ≡ length (read_value l)) → length old < n → Answer w p old old (paper (No 7))
     answer_short b (l, x, e) s = no_room_case (read_value l) (quoted x) (sym a ∙ b) (omega arith) refl refl
 
-    pub answer_decoded : r ≡ false → {n : ℕ} → (l : List Item) × Loose w l × (n ≡ length (read_value l)) → n ≤ length old → {new : Bytes} {m : Length} → Decoded w old new m → Answer w p old new (paper (InScratch n))
+    pub answer_decoded : r ≡ false → {n : ℕ} → (l : List Item) × Loose w l × (n ≡ length (read_value l)) → n ≤ length old → {new : Bytes} {m : Option ℕ} → Decoded w old new m → Answer w p old new (paper (InScratch n))
     answer_decoded b (l, x, e) s d = decoded (read_value l) (quoted x) (sym a ∙ b) (omega arith) (ap (λ (n : ℕ). handed (in_scratch n)) e) (d.bytes l x (omega arith))
 
 -- of the value

@@ -5,6 +5,7 @@ use mathlib.Core.Bool.{Bool, true, false}
 use Prim.Native.Nat.{ℕ, suc, ◌+◌, ◌-◌, ◌≤◌, ◌<◌}
 use native.Mathlib.Omega.{arith}
 use native.Mathlib.Numerals.{add-one}
+use native.Mathlib.Decide.{ℕ_discrete}
 use lib.ListN.{length, drop, get_or, length-drop, length-append, drop_of_length-le}
 use lib.Dec.{eqb}
 use lib.Seq.{drop-cons}
@@ -26,9 +27,11 @@ use Rattle.value.proofs.Loose.{item_exact, loose_first}
 use Rattle.decodes.specs.Walk.{Taken}
 use Rattle.decodes.specs.Units.{UnitSays}
 use Rattle.pieces.specs.Parts.{code_point}
-use Rattle.pieces.specs.Says.{Says}
-use Rattle.pieces.specs.declared.Piece.{Piece}
-use Rattle.pieces.specs.declared.Piece.TheVariants.{Got, Open, Bad}
+use Rattle.std.specs.Prelude.{Option, Ok, Err}
+use Rattle.std.specs.Result.{result_ok}
+use Rattle.scan.specs.declared.Stop.TheVariants.{Open, Bad}
+use Rattle.pieces.specs.Says.{Piece, Says}
+use Rattle.pieces.specs.declared.Character.{Character}
 
 item_char : {q : ℕ} {i : Item} → GoodItem q i → code_point i ≤ 0x10FFFF
 item_char (good_raw {c} h k) = char_max c h
@@ -113,44 +116,49 @@ module _ (s : Bytes) (at : ℕ) (h : at < length s) where
   stands : (b : ℕ) → get_or s at 0 ≡ b → drop at s ≡ b ∷ drop (at + 1) s
   stands b e = rw add-one (drop-cons s at 0 h ∙ ap (λ (b : ℕ). b ∷ drop (suc at) s) e)
 
-  pub unit_tab : get_or s at 0 ≡ 9 → UnitSays s at (Got 32 (at + 1))
+  unit_tab : get_or s at 0 ≡ 9 → Taken s at 32 (at + 1)
   unfolding read_item utf8
-  unit_tab e = record { says = one_item s at h (raw 9) 32 (at + 1) (ap (item_p BRACKET) (stands 9 e) ∙ tab_item (drop (at + 1) s)) (omega arith) (omega arith) (omega arith) (omega arith) (λ l y. refl) }
+  unit_tab e = one_item s at h (raw 9) 32 (at + 1) (ap (item_p BRACKET) (stands 9 e) ∙ tab_item (drop (at + 1) s)) (omega arith) (omega arith) (omega arith) (omega arith) (λ l y. refl)
 
-  pub unit_lf : get_or s at 0 ≡ 10 → UnitSays s at (Got 32 (at + 1))
+  unit_lf : get_or s at 0 ≡ 10 → Taken s at 32 (at + 1)
   unfolding read_item utf8
-  unit_lf e = record { says = one_item s at h (raw 10) 32 (at + 1) (ap (item_p BRACKET) (stands 10 e) ∙ lf_item (drop (at + 1) s)) (omega arith) (omega arith) (omega arith) (omega arith) (λ l y. refl) }
+  unit_lf e = one_item s at h (raw 10) 32 (at + 1) (ap (item_p BRACKET) (stands 10 e) ∙ lf_item (drop (at + 1) s)) (omega arith) (omega arith) (omega arith) (omega arith) (λ l y. refl)
+
+  pub unit_blank : 9 ≤ get_or s at 0 → get_or s at 0 < 11 → Taken s at 32 (at + 1)
+  unit_blank a b = go (ℕ_discrete (get_or s at 0) 9)
+    where
+      go : Dec (get_or s at 0 ≡ 9) → Taken s at 32 (at + 1)
+      go (yes e) = unit_tab e
+      go (no n) = unit_lf (omega arith)
 
   -- CR, and no LF behind it
-  cr_alone : get_or s at 0 ≡ 13 → (drop (at + 1) s ≡ 10 ∷ drop 1 (drop (at + 1) s) → ⊥) → UnitSays s at (Got 32 (at + 1))
+  cr_alone : get_or s at 0 ≡ 13 → (drop (at + 1) s ≡ 10 ∷ drop 1 (drop (at + 1) s) → ⊥) → Taken s at 32 (at + 1)
   unfolding read_item utf8
-  cr_alone e n = record { says = one_item s at h (raw 13) 32 (at + 1) (ap (item_p BRACKET) (stands 13 e) ∙ cr_item (drop (at + 1) s)) (omega arith) (omega arith) (omega arith) (omega arith) (λ l y. go (feeds l) (λ k. n (feeds_lf l y k))) }
+  cr_alone e n = one_item s at h (raw 13) 32 (at + 1) (ap (item_p BRACKET) (stands 13 e) ∙ cr_item (drop (at + 1) s)) (omega arith) (omega arith) (omega arith) (omega arith) (λ l y. go (feeds l) (λ k. n (feeds_lf l y k)))
     where
       go : (z : Bool) → (z ≡ true → ⊥) → read_item (raw 13) z ≡ utf8 32
       go true n = absurd (n refl)
       go false n = refl
 
-  pub unit_cr_end : get_or s at 0 ≡ 13 → length s ≤ at + 1 → UnitSays s at (Got 32 (at + 1))
+  pub unit_cr_end : get_or s at 0 ≡ 13 → length s ≤ at + 1 → Taken s at 32 (at + 1)
   unit_cr_end e k = cr_alone e (λ q. let z : ◌≡◌ {A = Bytes} [] (10 ∷ drop 1 (drop (at + 1) s)) = sym (drop_of_length-le s k) ∙ q in let y : ◌≡◌ {A = ℕ} 0 1 = cc in omega arith)
 
-  pub unit_cr : get_or s at 0 ≡ 13 → at + 1 < length s → (get_or s (at + 1) 0 ≡ 10 → ⊥) → UnitSays s at (Got 32 (at + 1))
+  pub unit_cr : get_or s at 0 ≡ 13 → at + 1 < length s → (get_or s (at + 1) 0 ≡ 10 → ⊥) → Taken s at 32 (at + 1)
   unit_cr e k n = cr_alone e (λ q. n (let z = drop-cons s (at + 1) 0 k in let y : get_or s (at + 1) 0 ≡ 10 = cc in y))
 
   -- CR LF
-  pub unit_cr_lf : get_or s at 0 ≡ 13 → at + 1 < length s → get_or s (at + 1) 0 ≡ 10 → UnitSays s at (Got 32 (at + 1 + 1))
+  pub unit_cr_lf : get_or s at 0 ≡ 13 → at + 1 < length s → get_or s (at + 1) 0 ≡ 10 → Taken s at 32 (at + 1 + 1)
   unfolding read_value read_item utf8 is_char within banned
   unit_cr_lf e k f = record {
-    says = record {
-      items = raw 13 ∷ raw 10 ∷ [];
-      good = good_item (good_raw refl refl) (good_item (good_raw refl refl) good_last);
-      from = omega arith;
-      upto = omega arith;
-      code_point_holds = omega arith;
-      no_longer = omega arith;
-      spelt = both;
-      reads = λ l y. refl;
-      only = λ l y. two (loose_first (get_or s at 0) (drop (suc at) s) y (drop-cons s at 0 h));
-    };
+    items = raw 13 ∷ raw 10 ∷ [];
+    good = good_item (good_raw refl refl) (good_item (good_raw refl refl) good_last);
+    from = omega arith;
+    upto = omega arith;
+    code_point_holds = omega arith;
+    no_longer = omega arith;
+    spelt = both;
+    reads = λ l y. refl;
+    only = λ l y. two (loose_first (get_or s at 0) (drop (suc at) s) y (drop-cons s at 0 h));
   }
     where
       behind : drop (at + 1) s ≡ 10 ∷ drop (at + 1 + 1) s
@@ -188,16 +196,18 @@ module _ (s : Bytes) (at : ℕ) (h : at < length s) where
       go z (beyond a k) = omega arith
 
   -- any other byte
-  pub unit_item : (get_or s at 0 ≡ 9 → ⊥) → (get_or s at 0 ≡ 10 → ⊥) → (get_or s at 0 ≡ 13 → ⊥) → {r : Piece} → Says code_point 1 s at r (item_p BRACKET (drop at s)) → UnitSays s at r
+  pub unit_item : (get_or s at 0 ≡ 9 → ⊥) → (get_or s at 0 ≡ 10 → ⊥) → (get_or s at 0 ≡ 13 → ⊥) → {r : Piece} → Says code_point 1 s at r (item_p BRACKET (drop at s)) → {o : Option Character} → o ≡ result_ok r → UnitSays s at o
   unfolding read_item
-  unit_item t f n {r} g = go r g
+  unit_item t f n {r} g e = rw e (go r g)
     where
       reads : (i : Item) (e : ℕ) → drop at s ≡ spell_item i ++ drop e s → (lf : Bool) → read_item i lf ≡ utf8 (code_point i)
       reads (raw c) e q lf = reads_itself c lf (plain c 9 e (omega arith) t q, plain c 10 e (omega arith) f q, plain c 13 e (omega arith) n q)
       reads (ref r) e q lf = refl
 
-      go : (r : Piece) → Says code_point 1 s at r (item_p BRACKET (drop at s)) → UnitSays s at r
-      go (Got c e) g =
+      go : (r : Piece) → Says code_point 1 s at r (item_p BRACKET (drop at s)) → UnitSays s at (result_ok r)
+      go (Ok d) g =
+          let c = d.code_point in
+          let e = d.next in
           let y = g.says in
           let (w, a, x) = sound item_exact (drop at s) y.value (drop e s) y.reads in
           let z : drop at s ≡ spell_item y.value ++ drop e s = a ∙ ap (λ (y : Bytes). y ++ drop e s) x.spelt in
@@ -206,5 +216,5 @@ module _ (s : Bytes) (at : ℕ) (h : at < length s) where
           let far = y.far in
           let k : length (utf8 c) ≤ length (spell_item y.value) = rw (← u) (item_longer x.good) in
           record { says = one_item s at h y.value c e y.reads (omega arith) y.upto (omega arith) k (λ l p. rw (← u) (reads y.value e z (feeds l))) }
-      go Open g = record { says = no_item s at h more g.says (λ i r q. done≢more q refl) }
-      go (Bad p) g = record { says = no_item s at h (bad (drop p s)) g.says.reads (λ i r q. done≢bad q refl) }
+      go (Err Open) g = record { says = no_item s at h more g.says (λ i r q. done≢more q refl) }
+      go (Err (Bad p)) g = record { says = no_item s at h (bad (drop p s)) g.says.2 (λ i r q. done≢bad q refl) }

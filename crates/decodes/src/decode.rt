@@ -5,30 +5,19 @@ ghost use Rattle.decodes.specs.Decoded.{LengthSays, PutInRoom, Decoded};
 
 use crate::units::unit;
 use crate::utf8::{utf8_byte, utf8_len};
-use pieces::Piece;
 
-/// How long a value reads, or that the bytes are no items.
-#[derive(Clone, Copy)]
-pub enum Length {
-    Is(usize),
-    Not,
-}
-
-/// How many bytes the value reads as.
-pub fn text_len(raw: &[u8]) -> Length
+/// How many bytes the value reads as, if the bytes are items.
+pub fn text_len(raw: &[u8]) -> Option<usize>
     ensures { LengthSays raw.now result }
 {
     let mut i = 0;
     let mut n: usize = 0;
     while i < raw.len() {
-        let p = unit(raw, i);
-        let Piece::Got(c, e) = p else {
-            return Length::Not;
-        };
-        n += utf8_len(c);
-        i = e;
+        let c = unit(raw, i)?;
+        n += utf8_len(c.code_point);
+        i = c.next;
     }
-    Length::Is(n)
+    Some(n)
 }
 
 // The bytes of c from n up to `next`, if there is room for them; the next place.
@@ -48,19 +37,16 @@ fn put_utf8(out: &mut [u8], n: usize, next: usize, c: usize) -> usize
 }
 
 /// How many bytes the value reads as; they stand first in `out`, if there is room for them.
-pub fn decode(raw: &[u8], out: &mut [u8]) -> Length
+pub fn decode(raw: &[u8], out: &mut [u8]) -> Option<usize>
     ensures { Decoded raw.now out.old out.new result }
 {
     let mut i = 0;
     let mut n: usize = 0;
     while i < raw.len() {
-        let p = unit(raw, i);
-        let Piece::Got(c, e) = p else {
-            return Length::Not;
-        };
-        let next = n + utf8_len(c);
-        n = put_utf8(out, n, next, c);
-        i = e;
+        let c = unit(raw, i)?;
+        let next = n + utf8_len(c.code_point);
+        n = put_utf8(out, n, next, c.code_point);
+        i = c.next;
     }
-    Length::Is(n)
+    Some(n)
 }

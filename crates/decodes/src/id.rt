@@ -3,7 +3,7 @@ ghost use Rattle.std.specs.Prelude.{◌≡◌};
 ghost use Rattle.value.specs.Numbers.{GuidReads, VersionReads};
 ghost use Rattle.value.specs.Ids.{no_id, IdReads};
 
-use crate::decode::{Length, decode};
+use crate::decode::decode;
 use crate::tests::is_plain;
 use value::Guid;
 
@@ -21,8 +21,7 @@ pub fn id_at(raw: &[u8]) -> Guid
     ensures { IdReads raw.now result }
 {
     let mut bytes = [0u8; 36];
-    let l = decode(raw, &mut bytes);
-    let Length::Is(n) = l else {
+    let Some(n) = decode(raw, &mut bytes) else {
         return no_id();
     };
     if n != 36 {
@@ -50,8 +49,7 @@ fn version_decoded(raw: &[u8]) -> bool
     ensures { VersionReads raw.now result }
 {
     let mut bytes = [0u8; 7];
-    let l = decode(raw, &mut bytes);
-    let Length::Is(n) = l else {
+    let Some(n) = decode(raw, &mut bytes) else {
         return false;
     };
     if 7 < n {

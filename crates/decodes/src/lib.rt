@@ -8,7 +8,7 @@ mod tests;
 mod units;
 mod utf8;
 
-pub use decode::{Length, text_len};
+pub use decode::text_len;
 pub use id::{guid_at, id_at, version_at};
 pub use numbers::{int_at, number_at};
 pub use tests::{is_as_read, is_plain, is_quotable};

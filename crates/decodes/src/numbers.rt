@@ -10,14 +10,6 @@ use crate::units::unit;
 use crate::utf8::{utf8_byte, utf8_len};
 use number::{NumberRead, WholeRead};
 use numerals::Scan;
-use pieces::Piece;
-
-/// The scan of what a value reads as, or that the bytes are no items.
-#[derive(Clone, Copy)]
-pub enum Walk {
-    Read(Scan),
-    Unread,
-}
 
 // The scan after the bytes of the character c.
 fn char_step(from: Scan, c: usize) -> Scan
@@ -34,21 +26,18 @@ fn char_step(from: Scan, c: usize) -> Scan
     s
 }
 
-// The scan, character by character.
-fn walked(raw: &[u8]) -> Walk
+// The scan of what the value reads as, character by character, if the bytes are items.
+fn walked(raw: &[u8]) -> Option<Scan>
     ensures { WalkSays raw.now result }
 {
     let mut s = Scan::start();
     let mut i = 0;
     while i < raw.len() {
-        let p = unit(raw, i);
-        let Piece::Got(c, e) = p else {
-            return Walk::Unread;
-        };
-        s = char_step(s, c);
-        i = e;
+        let c = unit(raw, i)?;
+        s = char_step(s, c.code_point);
+        i = c.next;
     }
-    Walk::Read(s)
+    Some(s)
 }
 
 /// An Int, as the value reads.
@@ -58,8 +47,7 @@ pub fn int_at(raw: &[u8]) -> WholeRead
     if is_plain(raw) {
         return numerals::int_of(raw);
     }
-    let w = walked(raw);
-    let Walk::Read(s) = w else {
+    let Some(s) = walked(raw) else {
         return WholeRead::Bad;
     };
     numerals::int_end(s)
@@ -72,8 +60,7 @@ pub fn number_at(raw: &[u8]) -> NumberRead
     if is_plain(raw) {
         return numerals::number_of(raw);
     }
-    let w = walked(raw);
-    let Walk::Read(s) = w else {
+    let Some(s) = walked(raw) else {
         return NumberRead {
             ok: false,
             millionths: 0,

@@ -19,8 +19,7 @@ use Rattle.value.specs.Loose.{Loose}
 use Rattle.value.specs.Numbers.{Reads, read, unread, IntReads, NumberReads, GuidReads, VersionReads}
 use Rattle.value.proofs.Size.{reads_no_longer, reads_some}
 use Rattle.decodes.specs.Decoded.{LengthCase, LengthSays}
-use Rattle.decodes.specs.declared.decode.Length.{Length}
-use Rattle.decodes.specs.declared.decode.Length.TheVariants.{Is as IsLong, Not}
+use Rattle.std.specs.Prelude.{Option, Some, None}
 use Rattle.value.proofs.Theorems.{loose_one}
 use Rattle.table.specs.Table.{words, some_words, whole, guid, version, positive}
 use Rattle.table.specs.Says.{Value, Result, present, refused, an_int, a_text, an_id, TOO_LONG, limited, when, ranged, measured, judged, refusal_in}
@@ -58,7 +57,7 @@ ranged_out : (lo hi : ℕ) (m : Bool) (k : ℕ) → not m && within lo hi k ≡ 
 ranged_out lo hi m k e = ap (λ (b : Bool). int_of (when b (an_int k))) e
 
 module _ {raw : Bytes} (r : WholeRead) (lo hi : ℕ) (reads : IntReads raw r) where
-  pub int_unread : {q : Verdict} → r ≡ NotRead → q ≡ int_of (refused 6) → Judges int_of (whole lo hi) raw q
+  pub int_unread : {q : Verdict} → r ≡ NoneRead → q ≡ int_of (refused 6) → Judges int_of (whole lo hi) raw q
   unfolding judged paper
   int_unread e h = record { says = λ l x. h ∙ sym (ap (λ (z : Sized). int_of (ranged lo hi z)) (not_int _ (sym (ap paper e) ∙ as_read_lem x reads))) }
 
@@ -152,20 +151,20 @@ module _ {raw : Bytes} (n : ℕ) where
   unfolding judged
   text_short h = record { says = λ l x. sym (ap refusal_in (limited_in n (read_value l) (present (a_text (read_value l))) (let z = reads_no_longer x in omega arith))) }
 
-  read_long : {r : Length} {k : ℕ} → r ≡ IsLong k → LengthSays raw r → {l : List Item} → Loose raw l → length (read_value l) ≡ k
-  read_long {r} {k} e s {l} x = go (subst (λ (r : Length). LengthCase raw r) e s.says)
+  read_long : {r : Option ℕ} {k : ℕ} → r ≡ Some k → LengthSays raw r → {l : List Item} → Loose raw l → length (read_value l) ≡ k
+  read_long {r} {k} e s {l} x = go (subst (λ (r : Option ℕ). LengthCase raw r) e s.says)
     where
       go : (l : List Item) × Loose raw l × (k ≡ length (read_value l)) → length (read_value l) ≡ k
       go (m, y, q) = ap (λ (l : List Item). length (read_value l)) (loose_one x y) ∙ sym q
 
-  pub text_unread : {r : Length} → r ≡ Not → LengthSays raw r → Judges refusal_in (words n) raw 5
-  text_unread e s = record { says = λ l x. absurd (subst (λ (r : Length). LengthCase raw r) e s.says l x) }
+  pub text_unread : {r : Option ℕ} → r ≡ None → LengthSays raw r → Judges refusal_in (words n) raw 5
+  text_unread e s = record { says = λ l x. absurd (subst (λ (r : Option ℕ). LengthCase raw r) e s.says l x) }
 
-  pub text_fits : {r : Length} {k : ℕ} → r ≡ IsLong k → LengthSays raw r → k ≤ n → Judges refusal_in (words n) raw 0
+  pub text_fits : {r : Option ℕ} {k : ℕ} → r ≡ Some k → LengthSays raw r → k ≤ n → Judges refusal_in (words n) raw 0
   unfolding judged
   text_fits e s h = record { says = λ l x. sym (ap refusal_in (limited_in n (read_value l) (present (a_text (read_value l))) (let z = read_long e s x in omega arith))) }
 
-  pub text_long : {r : Length} {k : ℕ} → r ≡ IsLong k → LengthSays raw r → n < k → Judges refusal_in (words n) raw 5
+  pub text_long : {r : Option ℕ} {k : ℕ} → r ≡ Some k → LengthSays raw r → n < k → Judges refusal_in (words n) raw 5
   unfolding judged
   text_long e s h = record { says = λ l x. sym (ap refusal_in (limited_out n (read_value l) (present (a_text (read_value l))) (let z = read_long e s x in omega arith))) }
 

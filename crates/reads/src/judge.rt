@@ -6,7 +6,6 @@ ghost use Rattle.table.specs.Says.{refusal_in};
 ghost use Rattle.reads.specs.Kept.{int_of, size_of, verdict_in, verdict_of, Judges, RowJudges};
 
 use crate::tried::{Cell, Tried};
-use decodes::Length;
 use number::WholeRead;
 use refusals::Refusal;
 use rows::data::Row;
@@ -18,7 +17,7 @@ pub fn text(raw: &[u8], limit: usize) -> Result<(), Refusal>
     if raw.len() <= limit {
         return Ok(());
     }
-    let Length::Is(size) = decodes::text_len(raw) else {
+    let Some(size) = decodes::text_len(raw) else {
         return Err(Refusal::TextTooLong);
     };
     if size <= limit {

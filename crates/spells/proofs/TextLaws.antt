@@ -16,11 +16,12 @@ use Rattle.grammar.specs.Character.{is_char, utf8}
 use Rattle.grammar.specs.Value.{banned}
 use Rattle.model.specs.Characters.{plain_byte, char_p}
 use Rattle.model.specs.Tests.{and_left, and_right, and_both}
-use Rattle.pieces.specs.Says.{Known, Says}
+use Rattle.std.specs.Prelude.{Ok, Err}
+use Rattle.scan.specs.declared.Stop.TheVariants.{Open, Bad}
+use Rattle.pieces.specs.Says.{Piece, got, Known, Says}
 use Rattle.pieces.specs.Parts.{Plain}
-use Rattle.pieces.proofs.Answers.{never, Fails, moved}
-use Rattle.pieces.specs.declared.Piece.{Piece}
-use Rattle.pieces.specs.declared.Piece.TheVariants.{Got, Open, Bad}
+use Rattle.pieces.specs.declared.Character.{Character}
+use Rattle.pieces.proofs.Answers.{moved}
 use Rattle.spelling.specs.Characters.{spell, IsText, TextSays, no_ban}
 use Rattle.spelling.proofs.DecidedLaws.{character_exact, first}
 use Rattle.spells.specs.Along.{Along, Passes}
@@ -31,13 +32,13 @@ module _ (s : Bytes) (at : ℕ) (h : at < length s) where
   unfolding char_p
   beyond_ascii k g = moved g (omega arith) (omega arith) (rw (drop-cons s at 0 h, lt-leb (get_or s at 0) 127 k))
 
-  pub in_ascii : get_or s at 0 ≤ 127 → is_char (get_or s at 0) ≡ true → Says (λ (c : ℕ). c) 1 s at (Got (get_or s at 0) (at + 1)) (char_p no_ban (drop at s))
+  pub in_ascii : get_or s at 0 ≤ 127 → is_char (get_or s at 0) ≡ true → Says (λ (c : ℕ). c) 1 s at (got (get_or s at 0) (at + 1)) (char_p no_ban (drop at s))
   unfolding char_p plain_byte
   in_ascii k e = record { says = record { value = get_or s at 0; is = refl; far = omega arith; upto = omega arith; reads = rw (add-one, drop-cons s at 0 h, le-leb (get_or s at 0) 127 k, e) } }
 
-  pub not_ascii : get_or s at 0 ≤ 127 → is_char (get_or s at 0) ≡ false → Says (λ (c : ℕ). c) 1 s at (Bad at) (char_p no_ban (drop at s))
+  pub not_ascii : get_or s at 0 ≤ 127 → is_char (get_or s at 0) ≡ false → Says (λ (c : ℕ). c) 1 s at (Err (Bad at)) (char_p no_ban (drop at s))
   unfolding char_p plain_byte
-  not_ascii k e = record { says = record { from = omega arith; inside = h; reads = rw (drop-cons s at 0 h, le-leb (get_or s at 0) 127 k, e) } }
+  not_ascii k e = record { says = (omega arith, h, rw (drop-cons s at 0 h, le-leb (get_or s at 0) 127 k, e)) }
 
 pub along_start : (v : Bytes) → Along v 0
 along_start v = record { upto = omega arith; to = λ t. t; from = λ t. t }
@@ -89,10 +90,10 @@ pub along_end : {v : Bytes} {i : ℕ} → Along v i → length v ≤ i → TextS
 along_end {v} {i} a h = record { sound = λ e. a.from (record { chars = []; good = refl; spelt = drop_of_length-le v h }); complete = λ t. refl }
 
 -- where no character stands there is no text
-pub along_fail : {v : Bytes} {i : ℕ} → Along v i → i < length v → {r : Piece} → Fails r → Says (λ (c : ℕ). c) 1 v i r (char_p no_ban (drop i v)) → TextSays v false
+pub along_fail : {v : Bytes} {i : ℕ} → Along v i → i < length v → {r : Piece} → ((c : Character) → r ≡ Ok c → ⊥) → Says (λ (c : ℕ). c) 1 v i r (char_p no_ban (drop i v)) → TextSays v false
 along_fail {v} {i} a h {r} f g = record { sound = λ e. clash (sym e); complete = λ t. absurd (go r f g (first (left v i h) (a.to t))) }
   where
-    go : (r : Piece) → Fails r → Says (λ (c : ℕ). c) 1 v i r (char_p no_ban (drop i v)) → (c : ℕ) × (l : List ℕ) × (char_p no_ban (drop i v) ≡ done c (spell l)) × (every is_char l ≡ true) → ⊥
-    go (Got c e) f g x = never f
-    go Open f g (c, l, q, k) = done≢more q g.says
-    go (Bad p) f g (c, l, q, k) = done≢bad q g.says.reads
+    go : (r : Piece) → ((c : Character) → r ≡ Ok c → ⊥) → Says (λ (c : ℕ). c) 1 v i r (char_p no_ban (drop i v)) → (c : ℕ) × (l : List ℕ) × (char_p no_ban (drop i v) ≡ done c (spell l)) × (every is_char l ≡ true) → ⊥
+    go (Ok c) f g x = f c refl
+    go (Err Open) f g (c, l, q, k) = done≢more q g.says
+    go (Err (Bad p)) f g (c, l, q, k) = done≢bad q g.says.2

@@ -5,8 +5,9 @@ ghost use Rattle.pieces.specs.Says.{Says};
 ghost use Rattle.spelling.specs.Characters.{TextSays, no_ban};
 ghost use Rattle.spells.specs.Along.{Passes};
 
-use pieces::Piece;
 use pieces::values::eight_clear;
+use pieces::{Character, Piece};
+use scan::Stop;
 
 // The character at `at`, and the next place.
 fn character(s: &[u8], at: usize) -> Piece
@@ -19,9 +20,12 @@ fn character(s: &[u8], at: usize) -> Piece
     }
     let c = b as usize;
     if pieces::references::is_char(c) {
-        return Piece::Got(c, at + 1);
+        return Ok(Character {
+            code_point: c,
+            next: at + 1,
+        });
     }
-    Piece::Bad(at)
+    Err(Stop::Bad(at))
 }
 
 // Where fewer than eight printable characters of ASCII stand in a row: one branch for eight bytes.
@@ -49,11 +53,10 @@ pub fn is_text(v: &[u8]) -> bool
         if v.len() <= j {
             return true;
         }
-        let p = character(v, j);
-        let Piece::Got(_, e) = p else {
+        let Ok(c) = character(v, j) else {
             return false;
         };
-        i = e;
+        i = c.next;
     }
     true
 }

@@ -2,7 +2,7 @@
 ghost use Rattle.value.specs.Asking.{paper, Answer, TextSays};
 
 use decodes::decode::decode;
-use decodes::{Length, is_as_read, is_plain, is_quotable, text_len};
+use decodes::{is_as_read, is_plain, is_quotable, text_len};
 use value::{Span, TextAt, Words};
 
 // The text of the bytes w, which stand at p. Plain ones, which most are, stand as they read.
@@ -15,8 +15,7 @@ fn text_of(w: &[u8], p: Span, scratch: &mut [u8]) -> TextAt
     if is_plain(w) {
         return TextAt::InMessage(p);
     }
-    let l = text_len(w);
-    let Length::Is(n) = l else {
+    let Some(n) = text_len(w) else {
         return TextAt::No(6);
     };
     if is_as_read(w) {

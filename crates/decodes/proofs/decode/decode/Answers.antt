@@ -8,20 +8,20 @@ use Rattle.decodes.proofs.decode.decode.Goals as goal
 pub loop-i-init : goal.loop-i-init
 loop-i-init c = filled_none _ _
 
-pub returns-in_default : goal.returns-in_default
-returns-in_default c = filled_fail c.loop-i.invariant c.in_default.not-Got c.unit-p.ensures
+pub returns-in_err-c : goal.returns-in_err-c
+returns-in_err-c c = rw c.from_residual.ensures (filled_fail c.loop-i.invariant c.in_err-c.ensures)
 
 pub overflow_add-next : goal.overflow_add-next
-overflow_add-next c = let z = counted_room c.loop-i.invariant.counted (taken c.in-Got.is c.unit-p.ensures) c.utf8_len.ensures in omega arith
+overflow_add-next c = let z = counted_room c.loop-i.invariant.counted (taken c.in_ok-c.was c.unit.ensures) c.utf8_len.ensures in omega arith
 
 pub put_utf8-n-requires : goal.put_utf8-n-requires
-put_utf8-n-requires c = ((taken c.in-Got.is c.unit-p.ensures).code_point_holds, ap (λ (m : ℕ). c.loop-i.n + m) c.utf8_len.ensures)
+put_utf8-n-requires c = ((taken c.in_ok-c.was c.unit.ensures).code_point_holds, ap (λ (m : ℕ). c.loop-i.n + m) c.utf8_len.ensures)
 
 pub loop-i-smaller : goal.loop-i-smaller
-loop-i-smaller c = let t = (taken c.in-Got.is c.unit-p.ensures) in let a = t.from in let b = t.upto in omega arith
+loop-i-smaller c = let t = (taken c.in_ok-c.was c.unit.ensures) in let a = t.from in let b = t.upto in omega arith
 
 pub loop-i-preserved : goal.loop-i-preserved
-loop-i-preserved c = filled_more c.loop-i.invariant (taken c.in-Got.is c.unit-p.ensures) c.put_utf8-n.ensures
+loop-i-preserved c = filled_more c.loop-i.invariant (taken c.in_ok-c.was c.unit.ensures) c.put_utf8-n.ensures
 
 pub returns : goal.returns
 returns c = filled_end c.loop-i.invariant c.loop-i-test.false

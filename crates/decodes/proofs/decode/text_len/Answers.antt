@@ -6,17 +6,17 @@ use Rattle.decodes.proofs.decode.text_len.Goals as goal
 pub loop-i-init : goal.loop-i-init
 loop-i-init c = counted_none _
 
-pub returns-in_default : goal.returns-in_default
-returns-in_default c = counted_fail c.loop-i.invariant c.in_default.not-Got c.unit-p.ensures
+pub returns-in_err-c : goal.returns-in_err-c
+returns-in_err-c c = rw c.from_residual.ensures (counted_fail c.loop-i.invariant c.in_err-c.ensures)
 
 pub overflow_add-n : goal.overflow_add-n
-overflow_add-n c = let z = counted_room c.loop-i.invariant (taken c.in-Got.is c.unit-p.ensures) c.utf8_len-n.ensures in omega arith
+overflow_add-n c = let z = counted_room c.loop-i.invariant (taken c.in_ok-c.was c.unit.ensures) c.utf8_len-n.ensures in omega arith
 
 pub loop-i-smaller : goal.loop-i-smaller
-loop-i-smaller c = let t = taken c.in-Got.is c.unit-p.ensures in let a = t.from in let b = t.upto in omega arith
+loop-i-smaller c = let t = taken c.in_ok-c.was c.unit.ensures in let a = t.from in let b = t.upto in omega arith
 
 pub loop-i-preserved : goal.loop-i-preserved
-loop-i-preserved c = counted_more c.loop-i.invariant (taken c.in-Got.is c.unit-p.ensures) c.utf8_len-n.ensures
+loop-i-preserved c = counted_more c.loop-i.invariant (taken c.in_ok-c.was c.unit.ensures) c.utf8_len-n.ensures
 
 pub returns : goal.returns
 returns c = counted_end c.loop-i.invariant c.loop-i-test.false

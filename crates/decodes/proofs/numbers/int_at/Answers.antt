@@ -12,7 +12,7 @@ pub returns-then-is_plain : goal.returns-then-is_plain
 returns-then-is_plain c = plain_read c.is_plain.ensures c.if-is_plain.true c.int_of.ensures
 
 pub returns-in_default : goal.returns-in_default
-returns-in_default c = walk_none (λ v q. paper q ≡ capped (int_of v)) WholeRead.Bad c.walked-w.ensures c.in_default.is refl
+returns-in_default c = walk_none (λ v q. paper q ≡ capped (int_of v)) WholeRead.Bad c.walked.ensures c.in_default.is refl
 
 pub returns : goal.returns
-returns c = walk_read (λ v q. paper q ≡ capped (int_of v)) WholeRead.Bad c.walked-w.ensures c.in-Read.is (λ v n e. ap paper (c.int_end.ensures ∙ ap int_end e) ∙ int_exact v)
+returns c = walk_read (λ v q. paper q ≡ capped (int_of v)) WholeRead.Bad c.walked.ensures c.in-Some.is (λ v n e. ap paper (c.int_end.ensures ∙ ap int_end e) ∙ int_exact v)

@@ -13,7 +13,7 @@ returns-then-is_plain c = plain_read c.is_plain.ensures c.if-is_plain.true c.num
 
 pub returns-in_default : goal.returns-in_default
 unfolding number_read
-returns-in_default c = walk_none (λ v q. q ≡ number_read (number_of v) (decimals_of v)) (number_read no_number 0) c.walked-w.ensures c.in_default.is refl
+returns-in_default c = walk_none (λ v q. q ≡ number_read (number_of v) (decimals_of v)) (number_read no_number 0) c.walked.ensures c.in_default.is refl
 
 pub returns : goal.returns
-returns c = walk_read (λ v q. q ≡ number_read (number_of v) (decimals_of v)) (number_read no_number 0) c.walked-w.ensures c.in-Read.is (λ v n e. c.number_end.ensures ∙ ap number_end e ∙ number_exact v (omega arith))
+returns c = walk_read (λ v q. q ≡ number_read (number_of v) (decimals_of v)) (number_read no_number 0) c.walked.ensures c.in-Some.is (λ v n e. c.number_end.ensures ∙ ap number_end e ∙ number_exact v (omega arith))

@@ -1,13 +1,14 @@
 -- The byte at hand says which law.
-use Rattle.decodes.proofs.UnitLaws.{unit_tab, unit_lf, unit_item}
+use native.Mathlib.Omega.{arith}
+use Rattle.decodes.proofs.UnitLaws.{unit_blank, unit_item}
 use Rattle.decodes.proofs.units.unit.Goals as goal
 
 -- The byte at hand says which law.
-pub returns-then-b-eq9 : goal.returns-then-b-eq9
-returns-then-b-eq9 c = unit_tab _ _ c.requires c.if-b-eq9.true
+pub returns-in-13 : goal.returns-in-13
+returns-in-13 c = record { says = c.line_end.ensures }
 
-pub returns-then-b-eq10 : goal.returns-then-b-eq10
-returns-then-b-eq10 c = unit_lf _ _ c.requires c.if-b-eq10.true
+pub returns-in-9 : goal.returns-in-9
+returns-in-9 c = record { says = unit_blank _ _ c.requires (omega arith) (omega arith) }
 
-pub returns : goal.returns
-returns c = unit_item _ _ c.requires c.if-b-eq9.false c.if-b-eq10.false c.if-b-eq13.false c.item.ensures
+pub returns-in_default : goal.returns-in_default
+returns-in_default c = unit_item _ _ c.requires (λ e. omega arith) (λ e. omega arith) (λ e. omega arith) c.item.ensures c.ok.ensures.value

@@ -9,7 +9,7 @@ pub returns-in_default : goal.returns-in_default
 returns-in_default c = text_unread c.args.limit c.in_default.is c.text_len.ensures
 
 pub returns-then-size-limit : goal.returns-then-size-limit
-returns-then-size-limit c = text_fits c.args.limit c.in-Is.is c.text_len.ensures c.if-size-limit.true
+returns-then-size-limit c = text_fits c.args.limit c.in-Some.is c.text_len.ensures c.if-size-limit.true
 
 pub returns : goal.returns
-returns c = text_long c.args.limit c.in-Is.is c.text_len.ensures c.if-size-limit.false
+returns c = text_long c.args.limit c.in-Some.is c.text_len.ensures c.if-size-limit.false
