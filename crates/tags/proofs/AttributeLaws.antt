@@ -9,9 +9,9 @@ use lib.ListN.{length, length-append, take, drop, get_or, length-take, length-dr
 use lib.Seq.{drop-cons, get_or-drop, get_or-append_seam}
 use lib.Dec.{eqb}
 use borrow.Author.Tests.{ne_eqb, eqb-true}
-use Rattle.scan.specs.Pieces.{Got, GotTok, byte_p, word_p, glue_tok, chained}
+use Rattle.scan.specs.Pieces.{Got, GotTok, byte_p, word_p, glue_tok, chained, Step}
 use Rattle.scan.specs.Unfold.{then_and, and_ext, and_and, glue_bind, on_bind}
-use Rattle.scan.proofs.Chain.{last, then_done, then_more, then_bad, Fails, never, tok, pass, known}
+use Rattle.scan.proofs.Chain.{then_done, tok, pass}
 use Rattle.model.specs.Values.{IsValue, value_p}
 use Rattle.model.proofs.Values.{quote_is, value_exact}
 use Rattle.model.specs.Glue.{always, glue_p}
@@ -26,21 +26,17 @@ use Rattle.grammar.specs.Glue.{is_glue}
 use Rattle.grammar.specs.Name.{letter, name_start, name_byte}
 use Rattle.grammar.specs.Value.{Item, spell_value, is_quote, GoodValue}
 use Rattle.pieces.specs.Parts.{IsQuote}
-use Rattle.tags.specs.Names.{Lacks, One, Ready, FreshTo, FreshCase, Fresh, FreshSays}
-use Rattle.tags.specs.Inner.{Opening, open_p, OpenedTo, Opened, AttributeTo, AttributeSays, lost_given, failed_tag, EndSays}
+use Rattle.tags.specs.Names.{Lacks, One, Marked, Ready, FreshTo, FreshSays}
+use Rattle.tags.specs.Inner.{Opening, open_p, OpenedTo, Opened, AttributeTo, AttributeSays, EndSays}
 use Rattle.tags.proofs.CompareLaws.{part_long, part_at, every_at, lacks_join}
 use Rattle.tags.proofs.QuoteLaws.{value_unquoted, lacks_byte_at}
-use Rattle.scan.specs.declared.Step.{Step}
-use Rattle.scan.specs.declared.Step.TheVariants.{Done, Open, Bad}
+use Rattle.std.specs.Prelude.{Result, Ok, Err}
+use Rattle.scan.specs.declared.Stop.{Stop}
+use Rattle.scan.specs.declared.Stop.TheVariants.{Bad}
 use Rattle.tags.specs.declared.attributes.Given.{Given}
-use Rattle.tags.specs.declared.attributes.Tag.{Tag}
-
--- an answer that fails is no Done
-pub not_done : {X : Type 0} {r : Step} {v : ℕ} → Fails r → r ≡ Done v → X
-not_done f e = never (subst (λ (r : Step). Fails r) e f)
 
 -- a byte is one byte long
-byte_next : (b : ℕ) (s : Bytes) (i j : ℕ) → Got 1 s i (Done j) (byte_p b (drop i s)) → j ≡ i + 1
+byte_next : (b : ℕ) (s : Bytes) (i j : ℕ) → Got 1 s i (Ok j) (byte_p b (drop i s)) → j ≡ i + 1
 unfolding byte_p
 byte_next b s i j g =
     let h : i < length s = omega (arith, g.says.1, g.says.2) in
@@ -62,7 +58,7 @@ byte_next b s i j g =
         absurd (let z : ◌≡◌ {A = ℕ} 0 1 = cc (q, g.says.3) in omega arith)
 
 -- the byte that was read
-byte_is : (b : ℕ) (s : Bytes) (i j : ℕ) → Got 1 s i (Done j) (byte_p b (drop i s)) → get_or s i 0 ≡ b
+byte_is : (b : ℕ) (s : Bytes) (i j : ℕ) → Got 1 s i (Ok j) (byte_p b (drop i s)) → get_or s i 0 ≡ b
 unfolding byte_p
 byte_is b s i j g = let h : i < length s = omega (arith, g.says.1, g.says.2) in go (eqb b (get_or s i 0)) refl h
   where
@@ -82,7 +78,7 @@ glue_token n (b ∷ t) g u h e = go (every is_glue (n ++ b ∷ [])) refl (λ k q
     go true k f q = f k q
     go false k f q = let z : n ≡ g = cc in subst (λ (y : Bytes). every is_glue y ≡ true) z h
 
-pub glue_read : {s : Bytes} {i j : ℕ} → GotTok 0 s i (Done j) (glue_tok (drop i s)) → every is_glue (take (j - i) (drop i s)) ≡ true
+pub glue_read : {s : Bytes} {i j : ℕ} → GotTok 0 s i (Ok j) (glue_tok (drop i s)) → every is_glue (take (j - i) (drop i s)) ≡ true
 unfolding glue_tok
 glue_read {s} {i} {j} g = glue_token [] (drop i s) (take (j - i) (drop i s)) (drop j s) refl g.says.2
 
@@ -100,22 +96,22 @@ part_size s i j h k = rw (length-take, length-drop) (omega arith)
 
 -- behind an attribute's name
 module _ (s : Bytes) (at : ℕ) where
-  pub opened_glue_fails : {r : Step} → Fails r → GotTok 0 s at r (glue_tok (drop at s)) → Opened s at r
+  pub opened_glue_fails : {x : Stop} → GotTok 0 s at (Err x) (glue_tok (drop at s)) → Opened s at (Err x)
   unfolding open_p
-  opened_glue_fails f g = record { says = pass f (tok g) 2 at (omega arith) _ refl; at_done = λ v e. not_done f e }
+  opened_glue_fails g = record { says = pass (tok g) 2 at (omega arith) _ refl; at_done = λ v e. cc }
 
-  module _ (i : ℕ) (g₁ : GotTok 0 s at (Done i) (glue_tok (drop at s))) where
-    pub opened_equals_fails : {r : Step} → Fails r → Got 1 s i r (byte_p 61 (drop i s)) → Opened s at r
+  module _ (i : ℕ) (g₁ : GotTok 0 s at (Ok i) (glue_tok (drop at s))) where
+    pub opened_equals_fails : {x : Stop} → Got 1 s i (Err x) (byte_p 61 (drop i s)) → Opened s at (Err x)
     unfolding open_p
-    opened_equals_fails f g = record { says = pass f g 2 at (omega (arith, g₁.says.0)) _ (then_done _ g₁.says.2); at_done = λ v e. not_done f e }
+    opened_equals_fails g = record { says = pass g 2 at (omega (arith, g₁.says.0)) _ (then_done _ g₁.says.2); at_done = λ v e. cc }
 
-    module _ (j : ℕ) (g₂ : Got 1 s i (Done j) (byte_p 61 (drop i s))) where
-      pub opened-second-fails : {r : Step} → Fails r → GotTok 0 s j r (glue_tok (drop j s)) → Opened s at r
+    module _ (j : ℕ) (g₂ : Got 1 s i (Ok j) (byte_p 61 (drop i s))) where
+      pub opened-second-fails : {x : Stop} → GotTok 0 s j (Err x) (glue_tok (drop j s)) → Opened s at (Err x)
       unfolding open_p
-      opened-second-fails f g =
-          record { says = pass f (tok g) 2 at (omega (arith, g₁.says.0, g₂.says.1)) _ (then_done _ g₁.says.2 ∙ then_done _ g₂.says.3); at_done = λ v e. not_done f e }
+      opened-second-fails g =
+          record { says = pass (tok g) 2 at (omega (arith, g₁.says.0, g₂.says.1)) _ (then_done _ g₁.says.2 ∙ then_done _ g₂.says.3); at_done = λ v e. cc }
 
-      module _ (k : ℕ) (g₃ : GotTok 0 s j (Done k) (glue_tok (drop j s))) where
+      module _ (k : ℕ) (g₃ : GotTok 0 s j (Ok k) (glue_tok (drop j s))) where
         opening : Opening
         opening = record { mid = take (i - at) (drop at s); after = take (k - j) (drop j s); quote = get_or s k 0 }
 
@@ -149,7 +145,7 @@ module _ (s : Bytes) (at : ℕ) where
         is-spaced : every is_glue (take (k - (i + 1)) (drop (i + 1) s)) ≡ true
         is-spaced = subst (λ (n : ℕ). every is_glue (take (k - n) (drop n s)) ≡ true) (byte_next 61 s i j g₂) (glue_read g₃)
 
-        pub opened-quote : is_quote (get_or s k 0) ≡ true → Opened s at (Done (k + 1))
+        pub opened-quote : is_quote (get_or s k 0) ≡ true → Opened s at (Ok (k + 1))
         unfolding opening
         opened-quote q =
             let a = g₁.says.0 in
@@ -164,12 +160,12 @@ module _ (s : Bytes) (at : ℕ) where
                 let z : k + 1 - 1 ≡ k = omega arith in
                 rw e (record { opening = opening; far = ends; upto = omega arith; is_quote_holds = q; quote = rw z; equals = i; from = before_equals; before = rw z behind-equals; unequal = no-equals; equal = byte_is 61 s i j g₂; spaced = rw z is-spaced; reads = r })
 
-        pub opened-bare : is_quote (get_or s k 0) ≡ false → Opened s at (Bad k)
+        pub opened-bare : is_quote (get_or s k 0) ≡ false → Opened s at (Err (Bad k))
         opened-bare q =
             let a = g₁.says.0 in
             let b = g₂.says.1 in
             let c = g₃.says.0 in
-            record { says = record { says = (omega arith, in_s, at-quote ∙ rw (drop-cons s k 0 in_s, q)) }; at_done = λ v e. absurd (let z : ◌≡◌ {A = ℕ} 0 1 = cc in omega arith) }
+            record { says = record { says = (omega arith, in_s, at-quote ∙ rw (drop-cons s k 0 in_s, q)) }; at_done = λ v e. cc }
 
 -- the model of what is given to an attribute, as a chain
 quoted_open : (may : Bool) (st : State) (g n g₂ g₃ t : Bytes)
@@ -252,16 +248,8 @@ unfolding name_byte name_start letter within digit
 name_lacks b h e = clash (sym h ∙ ap name_byte e)
 
 -- a whole attribute
-fresh_fails : {s : Bytes} {earlier : List Bytes} {at : ℕ} {r : Step} → Fails r → Fresh s earlier at r → (may : Bool) (st : State) (g : Bytes) → st.seen ≡ earlier → Got 1 s at r (attr_p may st g (drop at s))
-fresh_fails {s} {earlier} {at} {r} f y may st g e = go r f y
-  where
-    go : (r : Step) → Fails r → Fresh s earlier at r → Got 1 s at r (attr_p may st g (drop at s))
-    go (Done v) f y = never f
-    go Open f y = record { says = y.says may st g e }
-    go (Bad p) f y = record { says = (y.says.from, y.says.inside, y.says.reads may st g e) }
-
-pub known_fresh : {s : Bytes} {earlier : List Bytes} {at e : ℕ} {r : Step} → r ≡ Done e → Fresh s earlier at r → FreshTo s earlier at e
-known_fresh {s} {earlier} {at} q y = subst (λ (r : Step). FreshCase s earlier at r) q y.says
+pub known_fresh : {s : Bytes} {first at e : ℕ} {marks marks' : List ℕ} {r : Step} → r ≡ Ok e → FreshSays s first at marks marks' r → FreshSays s first at marks marks' (Ok e)
+known_fresh {s} {first} {at} {e} {marks} {marks'} q y = subst (λ (r : Step). FreshSays s first at marks marks' r) q y
 
 pub open_quote : {s : Bytes} {e v : ℕ} → OpenedTo s e v → IsQuote (get_or s (v - 1) 0)
 open_quote o = record { is = subst (λ (x : ℕ). is_quote x ≡ true) o.quote o.is_quote_holds }
@@ -309,13 +297,12 @@ module _ (s : Bytes) (earlier : List Bytes) (at e v f : ℕ) (starts : name_star
       }
 
 module _ (s : Bytes) (first at : ℕ) (marks marks' : List ℕ) where
-  pub attribute_name_fails : {r : Step} → Fails r → FreshSays s first at marks marks' r → (d : Given) → d ≡ lost_given r → AttributeSays s first at marks marks' d
-  attribute_name_fails f y d q =
-      rw q (record { says = λ h. fresh_fails f (y.says h); at_done = λ h e z. not_done f z; marked = λ h e z. not_done f z; long = y.long })
+  pub attribute_name_fails : {x : Stop} → FreshSays s first at marks marks' (Err x) → AttributeSays s first at marks marks' (Err x)
+  attribute_name_fails y = record { says = λ h. record { says = (y.says h).says }; marked = λ h d z. cc; long = y.long }
 
-  module _ (e : ℕ) {r₁ : Step} (y : FreshSays s first at marks marks' r₁) (is-e : r₁ ≡ Done e) where
+  module _ (e : ℕ) (y : FreshSays s first at marks marks' (Ok e)) where
     fresh_to : (h : Ready s first marks at) → FreshTo s h.stood.names at e
-    fresh_to h = known_fresh is-e (y.says h)
+    fresh_to h = (y.says h).says
 
     abbrev GivenBy : State → Bytes → Opening → Bytes → Out T
     GivenBy st g o u = chained (value_p o.quote u) (λ l v. done (mk st g (take (e - at) (drop at s)) o.mid o.after o.quote l) v)
@@ -323,25 +310,36 @@ module _ (s : Bytes) (first at : ℕ) (marks marks' : List ℕ) where
     begun_at : (h : Ready s first marks at) (may : Bool) (st : State) (g : Bytes) → st.seen ≡ h.stood.names → attr_p may st g (drop at s) ≡ chained (open_p (drop e s)) (GivenBy st g)
     begun_at h may st g q = (fresh_to h).reads may st g q ∙ equals_open may st g (take (e - at) (drop at s)) (drop e s)
 
-    pub attribute_opening_fails : {r : Step} → Fails r → Opened s e r → (d : Given) → d ≡ lost_given r → AttributeSays s first at marks marks' d
-    attribute_opening_fails f o d q =
-        rw q (record { says = λ h may st g z. pass f o.says 1 at (let m = (fresh_to h).far in omega arith) (GivenBy st g) (begun_at h may st g z); at_done = λ h v z. not_done f z; marked = λ h v z. not_done f z; long = y.long })
+    pub attribute_opening_fails : {x : Stop} → Opened s e (Err x) → AttributeSays s first at marks marks' (Err x)
+    attribute_opening_fails o = record {
+      says = λ h. record { says = λ may st g z. (pass o.says 1 at (let m = (fresh_to h).far in omega arith) (GivenBy st g) (begun_at h may st g z)).says };
+      marked = λ h d z. cc;
+      long = y.long;
+    }
 
     module _ (v : ℕ) (o : OpenedTo s e v) where
       value-at : (h : Ready s first marks at) (may : Bool) (st : State) (g : Bytes) → st.seen ≡ h.stood.names
           → attr_p may st g (drop at s) ≡ chained (value_p (get_or s (v - 1) 0) (drop v s)) (λ l u. done (mk st g (take (e - at) (drop at s)) o.opening.mid o.opening.after o.opening.quote l) u)
       value-at h may st g q = begun_at h may st g q ∙ then_done (GivenBy st g) o.reads ∙ ap (λ (x : ℕ). chained (value_p x (drop v s)) (λ l u. done (mk st g (take (e - at) (drop at s)) o.opening.mid o.opening.after o.opening.quote l) u)) o.quote
 
-      pub attribute-read : (r : Step) → Got 1 s v r (value_p (get_or s (v - 1) 0) (drop v s)) → AttributeSays s first at marks marks' (record { past = e; value = v; end = r })
-      attribute-read r g = record {
-        says = λ h may st x q. last g 1 at (let a = (fresh_to h).far in let b = o.far in omega arith) (let a = (fresh_to h).far in let b = o.far in omega arith) (λ l. mk st x (take (e - at) (drop at s)) o.opening.mid o.opening.after o.opening.quote l) (value-at h may st x q);
-        at_done = λ h f q. to h f (known q g);
-        marked = λ h f q. y.marked h e is-e;
+      pub attribute-value-fails : {x : Stop} → Got 1 s v (Err x) (value_p (get_or s (v - 1) 0) (drop v s)) → AttributeSays s first at marks marks' (Err x)
+      attribute-value-fails g = record {
+        says = λ h. record { says = λ may st b q. (pass g 1 at (let a = (fresh_to h).far in let c = o.far in omega arith) _ (value-at h may st b q)).says };
+        marked = λ h d z. cc;
         long = y.long;
       }
+
+      pub attribute-read : {f : ℕ} → Got 1 s v (Ok f) (value_p (get_or s (v - 1) 0) (drop v s)) → AttributeSays s first at marks marks' (Ok (record { past = e; value = v; end = f }))
+      attribute-read {f} g = record { says = λ h. record { says = to h }; marked = λ h d q. same_name h d (same_end d q); long = y.long }
         where
-          to : (h : Ready s first marks at) (f : ℕ) → Got 1 s v (Done f) (value_p (get_or s (v - 1) 0) (drop v s)) → AttributeTo s h.stood.names at e v f
-          to h f g =
+          same_end : (d : Given) → ◌≡◌ {A = Result Given Stop} (Ok (record { past = e; value = v; end = f })) (Ok d) → e ≡ d.past
+          same_end d q = let z : ◌≡◌ {A = Given} (record { past = e; value = v; end = f }) d = cc in ap (λ (d : Given). d.past) z
+
+          same_name : (h : Ready s first marks at) (d : Given) → e ≡ d.past → Marked marks' (take (d.past - at) (drop at s) ∷ h.stood.names)
+          same_name h d q = subst (λ (n : ℕ). Marked marks' (take (n - at) (drop at s) ∷ h.stood.names)) q (y.marked h e refl)
+
+          to : (h : Ready s first marks at) → AttributeTo s h.stood.names at e v f
+          to h =
               let b = value_size (get_or s (v - 1) 0) (open_quote o).is s v f g.says.0 o.upto g.says.2 g.says.3 in
               record {
                 mid = o.opening.mid;
@@ -356,6 +354,9 @@ module _ (s : Bytes) (first at : ℕ) (marks marks' : List ℕ) where
                 reads = λ may st x q. value-at h may st x q ∙ then_done _ g.says.3;
               }
 
+pub known_attribute : {s : Bytes} {first at : ℕ} {marks marks' : List ℕ} {r : Result Given Stop} {d : Given} → r ≡ Ok d → AttributeSays s first at marks marks' r → AttributeSays s first at marks marks' (Ok d)
+known_attribute {s} {first} {at} {marks} {marks'} q y = subst (λ (r : Result Given Stop). AttributeSays s first at marks marks' r) q y
+
 -- the end of a tag
 lit_as : {A : Type 0} (a : A) (cs x : Bytes) → lit_p cs a x ≡ chained (word_p cs x) (λ _ u. done a u)
 unfolding word_p chained
@@ -368,7 +369,7 @@ lit_as {A} a (c ∷ cs) (b ∷ r) = go (eqb c b) (lit_as a cs r)
     go false h = refl
 
 module _ (may : Bool) (s : Bytes) (at n : ℕ) (in_s : at < length s) where
-  pub end_bare : get_or s at 0 ≡ 62 → EndSays may s at n (record { empty = false; count = n; end = Done (at + 1) })
+  pub end_bare : get_or s at 0 ≡ 62 → EndSays may s at n (Ok (record { empty = false; count = n; end = at + 1 }))
   unfolding end_p
   end_bare e = record { says = (refl, record { far = omega arith; upto = omega arith; reads = λ st g. go may st g }) }
     where
@@ -377,9 +378,9 @@ module _ (may : Bool) (s : Bytes) (at n : ℕ) (in_s : at < length s) where
       go false st g = rw (add-one, drop-cons s at 0 in_s, e)
 
   module _ (ne : get_or s at 0 ≡ 62 → ⊥) where
-    pub end_refused : may ≡ false → (r : Tag) → r ≡ failed_tag (Bad at) → EndSays may s at n r
+    pub end_refused : may ≡ false → EndSays may s at n (Err (Bad at))
     unfolding end_p
-    end_refused z r q = rw q (record { says = (record { no_end = refl; none = refl }, record { from = omega arith; inside = in_s; reads = λ st g. rw (z, drop-cons s at 0 in_s, ne_eqb 62 (get_or s at 0) (λ y. ne (sym y))) }) })
+    end_refused z = record { says = λ st g. (omega arith, in_s, rw (z, drop-cons s at 0 in_s, ne_eqb 62 (get_or s at 0) (λ y. ne (sym y)))) }
 
     module _ (z : may ≡ true) where
       slash-at : (st : State) (g : Bytes) → end_p may st g (drop at s) ≡ chained (word_p (text "/>") (drop at s)) (λ _ u. done (fin st g true) u)
@@ -389,14 +390,9 @@ module _ (may : Bool) (s : Bytes) (at n : ℕ) (in_s : at < length s) where
           step : choice_p (eqb 62) (lit_p (62 ∷ []) (fin st g false)) (lit_p (47 ∷ 62 ∷ []) (fin st g true)) (drop at s) ≡ lit_p (47 ∷ 62 ∷ []) (fin st g true) (drop at s)
           step = rw (drop-cons s at 0 in_s, ne_eqb 62 (get_or s at 0) (λ y. ne (sym y)))
 
-      pub end-fails : {k : ℕ} {x : Step} → Fails x → Got k s at x (word_p (text "/>") (drop at s)) → (r : Tag) → r ≡ failed_tag x → EndSays may s at n r
-      end-fails {k} {x} f g r q = rw q (go x f g)
-        where
-          go : (x : Step) → Fails x → Got k s at x (word_p (text "/>") (drop at s)) → EndSays may s at n (failed_tag x)
-          go (Done e) f g = never f
-          go Open f g = record { says = (record { no_end = refl; none = refl }, λ st y. slash-at st y ∙ then_more _ g.says) }
-          go (Bad p) f g = record { says = (record { no_end = refl; none = refl }, record { from = g.says.0; inside = g.says.1; reads = λ st y. slash-at st y ∙ then_bad _ g.says.2 }) }
+      pub end-fails : {k : ℕ} {x : Stop} → Got k s at (Err x) (word_p (text "/>") (drop at s)) → EndSays may s at n (Err x)
+      end-fails g = record { says = λ st y. (pass g 1 at (omega arith) _ (slash-at st y)).says }
 
-      pub end_empty : {e : ℕ} → Got 2 s at (Done e) (word_p (text "/>") (drop at s)) → EndSays may s at n (record { empty = true; count = n; end = Done e })
+      pub end_empty : {e : ℕ} → Got 2 s at (Ok e) (word_p (text "/>") (drop at s)) → EndSays may s at n (Ok (record { empty = true; count = n; end = e }))
       end_empty {e} g = let h = g.says.1 in
           record { says = (refl, record { far = omega arith; upto = g.says.2; reads = λ st y. slash-at st y ∙ then_done _ g.says.3 }) }

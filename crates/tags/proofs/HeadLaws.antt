@@ -11,7 +11,7 @@ use lib.Dec.{leb}
 use borrow.Author.Tests.{leb-true, le-leb}
 use Rattle.scan.specs.Pieces.{Got, GotTok, glue_tok, chained}
 use Rattle.scan.specs.Unfold.{then_and, and_and, glue_bind}
-use Rattle.scan.proofs.Chain.{then_done, then_more, then_bad, Fails, never, tok, pass}
+use Rattle.scan.proofs.Chain.{then_done, stops, tok, pass}
 use Rattle.model.specs.Tests.{and_left, and_right}
 use Rattle.model.specs.Attributes.{T, turn_p, State, end_p, attr_p, head_p}
 use Rattle.model.proofs.Attributes.{head_eq}
@@ -27,12 +27,12 @@ use Rattle.grammar.specs.Places.{name_at, name_end, value_at, value_end}
 use Rattle.tags.specs.Places.{places, stored}
 use Rattle.tags.specs.Heads.{Lent, HeadCase, HeadSays}
 use Rattle.tags.specs.Names.{Rows, rows_none, rows_more, Marked, Ready}
-use Rattle.tags.specs.Inner.{AttributeTo, AttributeSays, PutRow, failed_tag, EndCase, EndSays}
+use Rattle.tags.specs.Inner.{AttributeTo, AttributeSays, PutRow, EndCase, EndSays}
 use Rattle.tags.proofs.MarkLaws.{marked_none}
 use Rattle.tags.proofs.AttributeLaws.{glue_read}
 use Rattle.tags.proofs.PlaceLaws.{same_row, attribute_size, spell_append, places_stored}
-use Rattle.scan.specs.declared.Step.{Step}
-use Rattle.scan.specs.declared.Step.TheVariants.{Done, Open, Bad}
+use Rattle.std.specs.Prelude.{Result, Ok, Err}
+use Rattle.scan.specs.declared.Stop.{Stop}
 use Rattle.tags.specs.declared.attributes.Given.{Given}
 use Rattle.tags.specs.declared.attributes.Tag.{Tag}
 
@@ -76,15 +76,6 @@ some_size : (g : Bytes) (k : ℕ) → length g ≡ k → non_empty g ≡ leb 1 k
 some_size [] k h = rw (← h)
 some_size (b ∷ g) k h = sym (le-leb 1 k (omega arith))
 
--- a reader that fails fails the tag
-pub head_fails : (may : Bool) (s : Bytes) (at : ℕ) (old t : List ℕ) {r : Step} → Fails r → Got 1 s at r (head_p may (drop at s)) → length t ≡ length old → (tag : Tag) → tag ≡ failed_tag r → HeadSays may s at old t tag
-head_fails may s at old t {r} f g long tag q = rw q (go r f g)
-  where
-    go : (r : Step) → Fails r → Got 1 s at r (head_p may (drop at s)) → HeadSays may s at old t (failed_tag r)
-    go (Done e) f g = never f
-    go Open f g = record { says = (record { no_end = refl; none = refl }, g.says); long = long }
-    go (Bad p) f g = record { says = (record { no_end = refl; none = refl }, record { from = g.says.0; inside = g.says.1; reads = g.says.2 }); long = long }
-
 module _ (may : Bool) (s : Bytes) (at : ℕ) (old t marks : List ℕ) (n i : ℕ) (w : InHead may s at old t marks n i) where
   -- behind the glue g: an attribute, or the end
   abbrev Next : Bytes → Bytes → Out T
@@ -99,11 +90,13 @@ module _ (may : Bool) (s : Bytes) (at : ℕ) (old t marks : List ℕ) (n i : ℕ
   i_far : at ≤ i
   i_far = let z = w.from in omega arith
 
-  pub head_glue_fails : {r : Step} → Fails r → GotTok 0 s i r (glue_tok (drop i s)) → (tag : Tag) → tag ≡ failed_tag r → HeadSays may s at old t tag
-  head_glue_fails f g tag q =
-      head_fails may s at old t f (pass f (tok g) 1 at i_far (λ g u. chained (Next g u) (onward (loop_p (turn_p may)))) (turned ∙ and_and (glue_tok (drop i s)) Next (onward (loop_p (turn_p may))))) w.table_long tag q
+  pub head_glue_fails : {x : Stop} → GotTok 0 s i (Err x) (glue_tok (drop i s)) → HeadSays may s at old t (Err x)
+  head_glue_fails g = record {
+    says = (pass (tok g) 1 at i_far (λ g u. chained (Next g u) (onward (loop_p (turn_p may)))) (turned ∙ and_and (glue_tok (drop i s)) Next (onward (loop_p (turn_p may))))).says;
+    long = w.table_long;
+  }
 
-  module _ (j : ℕ) (g : GotTok 0 s i (Done j) (glue_tok (drop i s))) where
+  module _ (j : ℕ) (g : GotTok 0 s i (Ok j) (glue_tok (drop i s))) where
     abbrev glue : Bytes
     glue = take (j - i) (drop i s)
 
@@ -130,9 +123,9 @@ module _ (may : Bool) (s : Bytes) (at : ℕ) (old t marks : List ℕ) (n i : ℕ
         go false y z e = refl
 
     -- the end of the tag
-    pub head_ends : leb 1 (j - i) && (leb n (ATTRIBUTES - 1) && name_start (get_or s j 0)) ≡ false → (tag : Tag) → EndSays may s j n tag → HeadSays may s at old t tag
+    pub head_ends : leb 1 (j - i) && (leb n (ATTRIBUTES - 1) && name_start (get_or s j 0)) ≡ false → (r : Result Tag Stop) → EndSays may s j n r → HeadSays may s at old t r
     unfolding chained
-    head_ends e tag x = record { says = go tag.empty tag.count tag.end x.says; long = w.table_long }
+    head_ends e r x = record { says = go r x.says; long = w.table_long }
       where
         ended : head_p may (drop at s) ≡ chained (end_p may w.st glue (drop j s)) (onward (loop_p (turn_p may)))
         ended = at_glue ∙ rw (behind_is, e)
@@ -140,13 +133,13 @@ module _ (may : Bool) (s : Bytes) (at : ℕ) (old t marks : List ℕ) (n i : ℕ
         whole-list : w.st.build [] ≡ w.read
         whole-list = w.built [] ∙ append-nil w.read
 
-        go : (empty : Bool) (count : ℕ) (r : Step) → EndCase may s j n empty count r → HeadCase may s at old t empty count r
-        go empty count (Done e) (c, y) =
+        go : (r : Result Tag Stop) → EndCase may s j n r → HeadCase may s at old t r
+        go (Ok tag) (c, y) =
             let a = i_far in
             let b = g.says.0 in
             let d = y.far in
             record {
-              head = record { attributes = w.st.build []; trail = glue; empty = empty };
+              head = record { attributes = w.st.build []; trail = glue; empty = tag.empty };
               reads = ended ∙ then_done _ (y.reads w.st glue);
               far = omega arith;
               upto = y.upto;
@@ -154,9 +147,7 @@ module _ (may : Bool) (s : Bytes) (at : ℕ) (old t marks : List ℕ) (n i : ℕ
               counts = c ∙ sym w.size ∙ ap length (sym whole-list);
               table = record { noted = λ k. w.places_are k ∙ ap (λ (m : ℕ). places 0 w.read ++ drop (4 * m) old) (sym w.size) ∙ ap (λ (l : List Attribute). places 0 l ++ drop (4 * length l) old) (sym whole-list) };
             }
-        go empty count Open (c, y) = (c, ended ∙ then_more _ (y w.st glue))
-        go empty count (Bad p) (c, y) = let a = i_far in let b = g.says.0 in let d = y.from in
-            (c, record { from = omega arith; inside = y.inside; reads = ended ∙ then_bad _ (y.reads w.st glue) })
+        go (Err x) y = let a = i_far in let b = g.says.0 in stops s j (end_p may w.st glue (drop j s)) x (y w.st glue) at (omega arith) (onward (loop_p (turn_p may))) ended
 
     -- one attribute more
     module _ (e : leb 1 (j - i) && (leb n (ATTRIBUTES - 1) && name_start (get_or s j 0)) ≡ true) where
@@ -179,19 +170,19 @@ module _ (may : Bool) (s : Bytes) (at : ℕ) (old t marks : List ℕ) (n i : ℕ
       at-attribute : head_p may (drop at s) ≡ chained (attr_p may w.st glue (drop j s)) (onward (loop_p (turn_p may)))
       at-attribute = at_glue ∙ rw (behind_is, e)
 
-      module _ (marks' : List ℕ) {d : Given} (x : AttributeSays s at j marks marks' d) where
-        pub head-attribute-fails : Fails d.end → (tag : Tag) → tag ≡ failed_tag d.end → HeadSays may s at old t tag
+      module _ (marks' : List ℕ) where
+        pub head-attribute-fails : {x : Stop} → AttributeSays s at j marks marks' (Err x) → HeadSays may s at old t (Err x)
         unfolding head-ready
-        head-attribute-fails f tag q = let a = i_far in let b = some-glue in
-            head_fails may s at old t f (pass f (x.says head-ready may w.st glue refl) 1 at (omega arith) (onward (loop_p (turn_p may))) at-attribute) w.table_long tag q
+        head-attribute-fails {x} y = let a = i_far in let b = some-glue in
+            record { says = stops s j (attr_p may w.st glue (drop j s)) x ((y.says head-ready).says may w.st glue refl) at (omega arith) (onward (loop_p (turn_p may))) at-attribute; long = w.table_long }
 
-        module _ (v : ℕ) (q : d.end ≡ Done v) where
-          y : AttributeTo s w.st.seen j d.past d.value v
+        module _ (d : Given) (x : AttributeSays s at j marks marks' (Ok d)) where
+          y : AttributeTo s w.st.seen j d.past d.value d.end
           unfolding head-ready
-          y = x.at_done head-ready v q
+          y = (x.says head-ready).says
 
           -- the order of the places
-          pub head-order : (at ≤ j) × (j ≤ v - 1) × (j < d.past) × (d.past ≤ v - 1) × (d.value ≤ v - 1) × (i < v) × (v ≤ length s) × (n < ATTRIBUTES) × (at ≤ d.value)
+          pub head-order : (at ≤ j) × (j ≤ d.end - 1) × (j < d.past) × (d.past ≤ d.end - 1) × (d.value ≤ d.end - 1) × (i < d.end) × (d.end ≤ length s) × (n < ATTRIBUTES) × (at ≤ d.value)
           head-order =
               let a = i_far in let b = some-glue in let c = y.name_some in let f = y.value_from_holds in let k = y.value_to in let l = y.upto in let m = few in
               (omega arith, omega arith, omega arith, omega arith, omega arith, omega arith, omega arith, m, omega arith)
@@ -204,7 +195,7 @@ module _ (may : Bool) (s : Bytes) (at : ℕ) (old t marks : List ℕ) (n i : ℕ
             name : name_at (i - at) a ≡ j - at
             past : name_end (i - at) a ≡ d.past - at
             value : value_at (i - at) a ≡ d.value - at
-            end : value_end (i - at) a ≡ v - 1 - at
+            end : value_end (i - at) a ≡ d.end - 1 - at
 
           counted : Counted
           unfolding a
@@ -219,14 +210,14 @@ module _ (may : Bool) (s : Bytes) (at : ℕ) (old t marks : List ℕ) (n i : ℕ
               let p₂ : length (take (d.past - j) (drop j s)) ≡ d.past - j = rw (length-take, length-drop) (omega arith) in
               record { name = omega arith; past = omega arith; value = omega arith; end = omega arith }
 
-          next_place : at + length (spell_attributes (w.read ++ a ∷ [])) ≡ v
+          next_place : at + length (spell_attributes (w.read ++ a ∷ [])) ≡ d.end
           next_place = let b = spell_append w.read a in let c = attribute_size (i - at) a in let f = w.from in let k = counted.end in let l = i_far in let m = y.value_to in let o = y.value_from_holds in omega arith
 
-          at_turn : head_p may (drop at s) ≡ loop_p (turn_p may) (record { seen = take (d.past - j) (drop j s) ∷ w.st.seen; build = λ l. w.st.build (a ∷ l) }) (drop v s)
+          at_turn : head_p may (drop at s) ≡ loop_p (turn_p may) (record { seen = take (d.past - j) (drop j s) ∷ w.st.seen; build = λ l. w.st.build (a ∷ l) }) (drop d.end s)
           unfolding a
           at_turn = at-attribute ∙ then_done _ (y.reads may w.st glue refl)
 
-          pub head-next : (t' : List ℕ) → PutRow t t' n (j - at) (d.past - at) (d.value - at) (v - 1 - at) → InHead may s at old t' marks' (n + 1) v
+          pub head-next : (t' : List ℕ) → PutRow t t' n (j - at) (d.past - at) (d.value - at) (d.end - 1 - at) → InHead may s at old t' marks' (n + 1) d.end
           unfolding head-ready
           head-next t' p = record {
             st = record { seen = take (d.past - j) (drop j s) ∷ w.st.seen; build = λ l. w.st.build (a ∷ l) };
@@ -237,7 +228,7 @@ module _ (may : Bool) (s : Bytes) (at : ℕ) (old t marks : List ℕ) (n i : ℕ
             built = λ l. w.built (a ∷ l) ∙ sym (append_assoc w.read (a ∷ []) l);
             names = ap suc w.names ∙ sym (add-one n);
             rows = rows_more w.rows (y.one i (let b = g.says.0 in omega arith) (glue_read g));
-            marked = x.marked head-ready v q;
+            marked = x.marked head-ready d refl;
             marks_long = x.long ∙ w.marks_long;
             room = let m = few in omega arith;
             table_long = p.long ∙ w.table_long;
@@ -249,8 +240,8 @@ module _ (may : Bool) (s : Bytes) (at : ℕ) (old t marks : List ℕ) (n i : ℕ
               noted k =
                   let b = few in
                   let l : 4 * n + 3 < length t = omega (arith, w.table_long, k.whole) in
-                  let m : v - 1 - at < 65_536 = omega (arith, k.short, y.upto, y.value_to, i_far) in
+                  let m : d.end - 1 - at < 65_536 = omega (arith, k.short, y.upto, y.value_to, i_far) in
                   let o : 0 + length (spell_attributes w.read) ≡ i - at = let z = w.from in omega arith in
-                  let r : stored t n (j - at) (d.past - at) (d.value - at) (v - 1 - at) ≡ stored (places 0 w.read ++ drop (4 * n) old) n (name_at (i - at) a) (name_end (i - at) a) (value_at (i - at) a) (value_end (i - at) a)
+                  let r : stored t n (j - at) (d.past - at) (d.value - at) (d.end - 1 - at) ≡ stored (places 0 w.read ++ drop (4 * n) old) n (name_at (i - at) a) (name_end (i - at) a) (value_at (i - at) a) (value_end (i - at) a)
                   = same_row n (w.places_are k) (sym counted.name) (sym counted.past) (sym counted.value) (sym counted.end) in
                   p.row l m ∙ r ∙ places_stored 0 w.read a n old w.size (omega (arith, k.whole)) (i - at) o

@@ -23,7 +23,9 @@ use Rattle.grammar.specs.Glue.{is_glue}
 use Rattle.grammar.specs.Name.{letter, name_start, name_byte, shaped}
 use Rattle.tags.specs.Names.{Part, Run, Named, Marked, Ready, Meets, NameTo, Fresh, FreshSays}
 use Rattle.tags.proofs.CompareLaws.{part_at, every_at}
-use Rattle.scan.specs.declared.Step.TheVariants.{Done, Open, Bad}
+use Rattle.std.specs.Prelude.{Ok, Err}
+use Rattle.scan.specs.Pieces.{Step}
+use Rattle.scan.specs.declared.Stop.TheVariants.{Open, Bad}
 
 shape_grow : (n : Bytes) (b : ℕ) → 0 < length n → shaped n ≡ true → name_byte b ≡ true → shaped (n ++ b ∷ []) ≡ true
 shape_grow [] b h k f = absurd (omega arith)
@@ -150,16 +152,16 @@ module _ (earlier : List Bytes) (s : Bytes) (at i : ℕ) (w : Run s at i) where
   name_at_lem : (may : Bool) (st : State) (g : Bytes) → st.seen ≡ earlier → attr_p may st g (drop at s) ≡ token_p (live earlier) (new earlier) (equals_p may st g) w.part.name (drop i s)
   name_at_lem may st g e = subst (λ (l : List Bytes). attr_p may st g (drop at s) ≡ token_p (live l) (new l) (equals_p may st g) w.part.name (drop i s)) e (name_at_own may st g)
 
-  fresh_end : length s ≤ i → Fresh s earlier at Open
+  fresh_end : length s ≤ i → Fresh s earlier at (Err Open)
   fresh_end h = record { says = λ may st g e. name_at_lem may st g e ∙ rw (drop_of_length-le s h) }
 
   module _ (h : i < length s) where
-    fresh_again : name_byte (get_or s i 0) ≡ false → among earlier (take (i - at) (drop at s)) ≡ true → Fresh s earlier at (Bad i)
+    fresh_again : name_byte (get_or s i 0) ≡ false → among earlier (take (i - at) (drop at s)) ≡ true → Fresh s earlier at (Err (Bad i))
     fresh_again f a = let x = w.part.from in
         let n : new earlier w.part.name ≡ false = new_no earlier w.part.name (rw w.part.is a) in
-        record { says = record { from = omega arith; inside = h; reads = λ may st g e. name_at_lem may st g e ∙ rw (drop-cons s i 0 h, live_shut earlier w.part.name (get_or s i 0) f, n) } }
+        record { says = λ may st g e. (omega arith, h, name_at_lem may st g e ∙ rw (drop-cons s i 0 h, live_shut earlier w.part.name (get_or s i 0) f, n)) }
 
-    fresh_done : name_byte (get_or s i 0) ≡ false → among earlier (take (i - at) (drop at s)) ≡ false → Fresh s earlier at (Done i)
+    fresh_done : name_byte (get_or s i 0) ≡ false → among earlier (take (i - at) (drop at s)) ≡ false → Fresh s earlier at (Ok i)
     fresh_done f a = let x = w.part.from in let y = w.part.size in
         let n : new earlier w.part.name ≡ true = new_yes earlier w.part.name (omega arith) (rw w.part.is a) in
         record { says = record { far = x; upto = h; named = part_named s at i w.part; ends = f; reads = λ may st g e. name_at_lem may st g e ∙ rw (← w.part.is, drop-cons s i 0 h, live_shut earlier w.part.name (get_or s i 0) f, n) } }
@@ -179,11 +181,11 @@ module _ (earlier : List Bytes) (s : Bytes) (at i : ℕ) (w : Run s at i) where
           let e : drop at s ≡ (w.part.name ++ get_or s i 0 ∷ []) ++ drop (i + 1) s = w.part.split ∙ rw (add-one, append_assoc, drop-cons s i 0 h) in
           rw e (part_is (w.part.name ++ get_or s i 0 ∷ []) (drop (i + 1) s) (i + 1 - at) l)
 
-      fresh-full : among earlier (take (i + 1 - at) (drop at s)) ≡ true → Fresh s earlier at (Bad i)
+      fresh-full : among earlier (take (i + 1 - at) (drop at s)) ≡ true → Fresh s earlier at (Err (Bad i))
       unfolding name2
       fresh-full a = let x = w.part.from in
           let l : live earlier (w.part.name ++ get_or s i 0 ∷ []) ≡ false = live_no earlier name2 (let z = long2 in omega arith) (rw is2 a) in
-          record { says = record { from = omega arith; inside = h; reads = λ may st g e. name_at_lem may st g e ∙ rw (drop-cons s i 0 h, l, equals_bad may st g w.part.name (get_or s i 0) (drop (suc i) s) f) (go (new earlier w.part.name) (bad (get_or s i 0 ∷ drop (suc i) s))) } }
+          record { says = λ may st g e. (omega arith, h, name_at_lem may st g e ∙ rw (drop-cons s i 0 h, l, equals_bad may st g w.part.name (get_or s i 0) (drop (suc i) s) f) (go (new earlier w.part.name) (bad (get_or s i 0 ∷ drop (suc i) s)))) }
         where
           go : {A : Type 0} (z : Bool) (o : Out A) → pick z o o ≡ o
           go true o = refl
@@ -198,7 +200,7 @@ module _ (earlier : List Bytes) (s : Bytes) (at i : ℕ) (w : Run s at i) where
             let l : live earlier (w.part.name ++ get_or s i 0 ∷ []) ≡ true = of_live earlier (w.part.name ++ get_or s i 0 ∷ []) (record { shape = shape_grow w.part.name (get_or s i 0) (omega arith) w.part.shape f; fits = let z = long2 in omega arith; room = inr (rw is2 a) }) in
             name_at_lem may st g e ∙ rw (add-one, drop-cons s i 0 h, l)
 
-        fresh-full-end : length s - i < 2 → Fresh s earlier at Open
+        fresh-full-end : length s - i < 2 → Fresh s earlier at (Err Open)
         fresh-full-end k = let j : length s ≤ i + 1 = omega arith in record { says = λ may st g e. name-full-at may st g e ∙ rw (drop_of_length-le s j) }
 
         module _ (k : 2 ≤ length s - i) where
@@ -210,11 +212,11 @@ module _ (earlier : List Bytes) (s : Bytes) (at i : ℕ) (w : Run s at i) where
               let l : live earlier (name2 ++ get_or s (i + 1) 0 ∷ []) ≡ false = live_long earlier (name2 ++ get_or s (i + 1) 0 ∷ []) (rw length-append (omega arith)) in
               name-full-at may st g e ∙ rw (← is2, drop-cons s (i + 1) 0 j, l, n)
 
-          fresh-long : name_byte (get_or s (i + 1) 0) ≡ true → Fresh s earlier at (Bad (i + 1))
+          fresh-long : name_byte (get_or s (i + 1) 0) ≡ true → Fresh s earlier at (Err (Bad (i + 1)))
           fresh-long u = let x = w.part.from in let j : i + 1 < length s = omega arith in
-              record { says = record { from = omega arith; inside = j; reads = λ may st g e. last-at may st g e ∙ rw (drop-cons s (i + 1) 0 j) (equals_bad may st g (take (i + 1 - at) (drop at s)) (get_or s (i + 1) 0) (drop (suc (i + 1)) s) u) } }
+              record { says = λ may st g e. (omega arith, j, last-at may st g e ∙ rw (drop-cons s (i + 1) 0 j) (equals_bad may st g (take (i + 1 - at) (drop at s)) (get_or s (i + 1) 0) (drop (suc (i + 1)) s) u)) }
 
-          fresh-last : name_byte (get_or s (i + 1) 0) ≡ false → Fresh s earlier at (Done (i + 1))
+          fresh-last : name_byte (get_or s (i + 1) 0) ≡ false → Fresh s earlier at (Ok (i + 1))
           fresh-last u = let x = w.part.from in
               record { says = record { far = omega arith; upto = omega arith; named = named_more s at i (omega arith) (part_named s at i w.part) f; ends = u; reads = λ may st g e. last-at may st g e } }
 
@@ -227,28 +229,28 @@ module _ (s : Bytes) (first at i to : ℕ) (w : Run s at i) (h : i < length s) (
       go (inl (e, f)) = let x = w.part.from in (omega arith, omega arith, subst (λ (m : ℕ). Named s at (m - at)) (sym e) (part_named s at i w.part))
       go (inr (e, f)) = let x = w.part.from in (omega arith, omega arith, subst (λ (m : ℕ). Named s at (m - at)) (sym e) (named_more s at i (omega arith) (part_named s at i w.part) f))
 
-  fresh_met : (earlier : List Bytes) → among earlier (take (to - at) (drop at s)) ≡ true → Fresh s earlier at (Bad i)
+  fresh_met : (earlier : List Bytes) → among earlier (take (to - at) (drop at s)) ≡ true → Fresh s earlier at (Err (Bad i))
   fresh_met earlier a = go t
     where
-      go : NameTo s i to → Fresh s earlier at (Bad i)
+      go : NameTo s i to → Fresh s earlier at (Err (Bad i))
       go (inl (e, f)) = fresh_again earlier s at i w h f (subst (λ (m : ℕ). among earlier (take (m - at) (drop at s)) ≡ true) e a)
       go (inr (e, f)) = fresh-full earlier s at i w h f (subst (λ (m : ℕ). among earlier (take (m - at) (drop at s)) ≡ true) e a)
 
   module _ (marks marks' : List ℕ) where
-    pub says_met : {r : Bool} → Meets s first at to marks marks' r → r ≡ true → FreshSays s first at marks marks' (Bad i)
+    pub says_met : {r : Bool} → Meets s first at to marks marks' r → r ≡ true → FreshSays s first at marks marks' (Err (Bad i))
     says_met m q = record { says = λ r. fresh_met r.stood.names (sym (m.says r) ∙ q); marked = λ r e z. absurd (let y : ◌≡◌ {A = ℕ} 0 1 = cc in omega arith); long = m.long }
 
     module _ {r : Bool} (m : Meets s first at to marks marks' r) (q : r ≡ false) where
       unseen : (d : Ready s first marks at) (n : ℕ) → to ≡ n → among d.stood.names (take (n - at) (drop at s)) ≡ false
       unseen d n e = subst (λ (j : ℕ). among d.stood.names (take (j - at) (drop at s)) ≡ false) e (sym (m.says d) ∙ q)
 
-      marked-to : (d : Ready s first marks at) (n : ℕ) → to ≡ n → (e : ℕ) → Done n ≡ Done e → Marked marks' (take (e - at) (drop at s) ∷ d.stood.names)
+      marked-to : (d : Ready s first marks at) (n : ℕ) → to ≡ n → (e : ℕ) → ◌≡◌ {A = Step} (Ok n) (Ok e) → Marked marks' (take (e - at) (drop at s) ∷ d.stood.names)
       marked-to d n z e u = let v : n ≡ e = cc in subst (λ (j : ℕ). Marked marks' (take (j - at) (drop at s) ∷ d.stood.names)) (z ∙ v) (m.marked d)
 
-      pub says-short : to ≡ i → FreshSays s first at marks marks' (Done i)
+      pub says-short : to ≡ i → FreshSays s first at marks marks' (Ok i)
       says-short z = record { says = λ d. go d t; marked = λ d e u. marked-to d i z e u; long = m.long }
         where
-          go : (d : Ready s first marks at) → NameTo s i to → Fresh s d.stood.names at (Done i)
+          go : (d : Ready s first marks at) → NameTo s i to → Fresh s d.stood.names at (Ok i)
           go d (inl (e, f)) = fresh_done d.stood.names s at i w h f (unseen d i z)
           go d (inr (e, f)) = absurd (omega (arith, z, e))
 
@@ -260,20 +262,20 @@ module _ (s : Bytes) (first at i to : ℕ) (w : Run s at i) (h : i < length s) (
             go (inl (e, f)) = absurd (z e)
             go (inr x) = x
 
-        pub says-full-end : length s - i < 2 → FreshSays s first at marks marks' Open
+        pub says-full-end : length s - i < 2 → FreshSays s first at marks marks' (Err Open)
         says-full-end k =
             record { says = λ d. fresh-full-end d.stood.names s at i w h is-full.1 (unseen d (i + 1) is-full.0) k; marked = λ d e u. absurd (let y : ◌≡◌ {A = ℕ} 0 1 = cc in omega arith); long = m.long }
 
         module _ (k : 2 ≤ length s - i) where
-          pub says_long : name_byte (get_or s (i + 1) 0) ≡ true → FreshSays s first at marks marks' (Bad (i + 1))
+          pub says_long : name_byte (get_or s (i + 1) 0) ≡ true → FreshSays s first at marks marks' (Err (Bad (i + 1)))
           says_long f =
               record { says = λ d. fresh-long d.stood.names s at i w h is-full.1 (unseen d (i + 1) is-full.0) k f; marked = λ d e u. absurd (let y : ◌≡◌ {A = ℕ} 0 1 = cc in omega arith); long = m.long }
 
-          pub says_last : name_byte (get_or s (i + 1) 0) ≡ false → FreshSays s first at marks marks' (Done (i + 1))
+          pub says_last : name_byte (get_or s (i + 1) 0) ≡ false → FreshSays s first at marks marks' (Ok (i + 1))
           says_last f =
               record { says = λ d. fresh-last d.stood.names s at i w h is-full.1 (unseen d (i + 1) is-full.0) k f; marked = λ d e u. marked-to d (i + 1) is-full.0 e u; long = m.long }
 
-pub says_end : (s : Bytes) (first at i : ℕ) (marks : List ℕ) → Run s at i → length s ≤ i → FreshSays s first at marks marks Open
+pub says_end : (s : Bytes) (first at i : ℕ) (marks : List ℕ) → Run s at i → length s ≤ i → FreshSays s first at marks marks (Err Open)
 says_end s first at i marks w h = record { says = λ d. fresh_end d.stood.names s at i w h; marked = λ d e u. absurd (let y : ◌≡◌ {A = ℕ} 0 1 = cc in omega arith); long = refl }
 
 pub small_test : (b : ℕ) → ltb 96 b && ltb b 123 ≡ true → name_byte b ≡ true

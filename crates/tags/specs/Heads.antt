@@ -1,19 +1,14 @@
 -- The promise of `head`: what stands in a tag behind its name, and where its attributes stand.
-use Rattle.std.specs.Prelude.{◌≡◌, List, ◌++◌, Bool, false, ℕ, ◌+◌, ◌*◌, ◌≤◌, ◌<◌, length, drop}
-use Rattle.exact.specs.Exact.{done, more, bad}
+use Rattle.std.specs.Prelude.{◌≡◌, List, ◌++◌, Bool, ℕ, ◌+◌, ◌*◌, ◌≤◌, ◌<◌, length, drop, Result, Ok, Err}
+use Rattle.exact.specs.Exact.{done}
 use Rattle.grammar.specs.Bytes.{Bytes}
 use Rattle.grammar.specs.Limits.{ATTRIBUTES, MESSAGE}
 use Rattle.grammar.specs.Attribute.{Attribute}
 use Rattle.model.specs.Attributes.{Head, head_p}
-use Rattle.scan.specs.declared.Step.{Step}
-use Rattle.scan.specs.declared.Step.TheVariants.{Done, Open, Bad}
+use Rattle.scan.specs.Pieces.{StopCase}
+use Rattle.scan.specs.declared.Stop.{Stop}
 use Rattle.tags.specs.Places.{places}
 use Rattle.tags.specs.declared.attributes.Tag.{Tag}
-
--- of a tag that is not read nothing else is told
-pub record Nothing (empty : Bool) (count : ℕ) : Type 0 where
-  pub no_end : empty ≡ false
-  pub none : count ≡ 0
 
 -- a table for all attributes that a tag may have is lent, and their places, counted from `at`, are small enough for it
 pub record Lent (s : Bytes) (at : ℕ) (old : List ℕ) : Type 0 where
@@ -24,27 +19,21 @@ pub record Lent (s : Bytes) (at : ℕ) (old : List ℕ) : Type 0 where
 pub record Noted (s : Bytes) (at : ℕ) (old new : List ℕ) (l : List Attribute) : Type 0 where
   pub noted : Lent s at old → new ≡ places 0 l ++ drop (4 * length l) old
 
--- attributes, glue and the end of the tag were read up to e
-pub record HeadRead (may : Bool) (s : Bytes) (at : ℕ) (old new : List ℕ) (empty : Bool) (count e : ℕ) : Type 0 where
+-- attributes, glue and the end of the tag were read
+pub record HeadRead (may : Bool) (s : Bytes) (at : ℕ) (old new : List ℕ) (t : Tag) : Type 0 where
   pub head : Head
-  pub reads : head_p may (drop at s) ≡ done head (drop e s)
-  pub far : at + 1 ≤ e
-  pub upto : e ≤ length s
-  pub ends : empty ≡ head.empty
-  pub counts : count ≡ length head.attributes
+  pub reads : head_p may (drop at s) ≡ done head (drop t.end s)
+  pub far : at + 1 ≤ t.end
+  pub upto : t.end ≤ length s
+  pub ends : t.empty ≡ head.empty
+  pub counts : t.count ≡ length head.attributes
   pub table : Noted s at old new head.attributes
 
-pub record HeadBad (may : Bool) (s : Bytes) (at p : ℕ) : Type 0 where
-  pub from : at ≤ p
-  pub inside : p < length s
-  pub reads : head_p may (drop at s) ≡ bad (drop p s)
-
-abbrev pub HeadCase : Bool → Bytes → ℕ → List ℕ → List ℕ → Bool → ℕ → Step → Type 0
-HeadCase may s at old new empty count (Done e) = HeadRead may s at old new empty count e
-HeadCase may s at old new empty count Open = Nothing empty count × (head_p may (drop at s) ≡ more)
-HeadCase may s at old new empty count (Bad p) = Nothing empty count × HeadBad may s at p
+abbrev pub HeadCase : Bool → Bytes → ℕ → List ℕ → List ℕ → Result Tag Stop → Type 0
+HeadCase may s at old new (Ok t) = HeadRead may s at old new t
+HeadCase may s at old new (Err x) = StopCase s at x (head_p may (drop at s))
 
 -- the promise of `head`: the answer r, and the table before and after; without a tag the table is scratch
-pub record HeadSays (may : Bool) (s : Bytes) (at : ℕ) (old new : List ℕ) (r : Tag) : Type 0 where
-  pub says : HeadCase may s at old new r.empty r.count r.end
+pub record HeadSays (may : Bool) (s : Bytes) (at : ℕ) (old new : List ℕ) (r : Result Tag Stop) : Type 0 where
+  pub says : HeadCase may s at old new r
   pub long : length new ≡ length old

@@ -1,19 +1,17 @@
 -- What the answers of the readers of an attribute and of a tag's end say.
-use Rattle.std.specs.Prelude.{◌≡◌, List, ◌∷◌, Bool, true, false, ℕ, ◌+◌, ◌-◌, ◌*◌, ◌≤◌, ◌<◌, length, take, drop, get_or}
+use Rattle.std.specs.Prelude.{◌≡◌, List, ◌∷◌, Bool, true, ℕ, ◌+◌, ◌-◌, ◌*◌, ◌≤◌, ◌<◌, length, take, drop, get_or, Result, Ok, Err}
 use Prim.Native.Char.{code}
-use Rattle.exact.specs.Exact.{done, more, bad, Reader}
+use Rattle.exact.specs.Exact.{done, Reader}
 use Rattle.exact.specs.Chain.{ret_p}
 use Rattle.exact.specs.Byte.{on_p}
 use Rattle.grammar.specs.Bytes.{Bytes, every}
 use Rattle.grammar.specs.Glue.{is_glue}
 use Rattle.grammar.specs.Value.{Item, spell_value, is_quote}
 use Rattle.model.specs.Attributes.{State, mk, fin, end_p, attr_p}
-use Rattle.scan.specs.Pieces.{Got, byte_p, glue_tok, chained}
-use Rattle.scan.specs.declared.Step.{Step}
-use Rattle.scan.specs.declared.Step.TheVariants.{Done, Open, Bad}
+use Rattle.scan.specs.Pieces.{StopCase, Got, byte_p, glue_tok, chained, Step}
+use Rattle.scan.specs.declared.Stop.{Stop}
 use Rattle.tags.specs.Places.{stored}
 use Rattle.tags.specs.Names.{Lacks, One, Marked, Ready}
-use Rattle.tags.specs.Heads.{Nothing}
 use Rattle.tags.specs.declared.attributes.Given.{Given}
 use Rattle.tags.specs.declared.attributes.Tag.{Tag}
 
@@ -43,7 +41,7 @@ pub record OpenedTo (s : Bytes) (at v : ℕ) : Type 0 where
 
 pub record Opened (s : Bytes) (at : ℕ) (r : Step) : Type 0 where
   pub says : Got 2 s at r (open_p (drop at s))
-  pub at_done : (v : ℕ) → r ≡ Done v → OpenedTo s at v
+  pub at_done : (v : ℕ) → r ≡ Ok v → OpenedTo s at v
 
 -- an attribute was read from its name at `at` up to e, whatever stands before it; the name ends at `past`, and the raw value stands from `from` on
 pub record AttributeTo (s : Bytes) (names : List Bytes) (at past from e : ℕ) : Type 0 where
@@ -58,15 +56,18 @@ pub record AttributeTo (s : Bytes) (names : List Bytes) (at past from e : ℕ) :
   pub one : (i : ℕ) → i ≤ at → every is_glue (take (at - i) (drop i s)) ≡ true → One s i e (take (past - at) (drop at s))
   pub reads : (may : Bool) (st : State) (g : Bytes) → st.seen ≡ names → attr_p may st g (drop at s) ≡ done (mk st g (take (past - at) (drop at s)) mid after quote value) (drop e s)
 
-pub record AttributeSays (s : Bytes) (first at : ℕ) (marks marks' : List ℕ) (r : Given) : Type 0 where
-  pub says : (h : Ready s first marks at) (may : Bool) (st : State) (g : Bytes) → st.seen ≡ h.stood.names → Got 1 s at r.end (attr_p may st g (drop at s))
-  pub at_done : (h : Ready s first marks at) (e : ℕ) → r.end ≡ Done e → AttributeTo s h.stood.names at r.past r.value e
-  pub marked : (h : Ready s first marks at) (e : ℕ) → r.end ≡ Done e → Marked marks' (take (r.past - at) (drop at s) ∷ h.stood.names)
-  pub long : length marks' ≡ length marks
+abbrev pub AttributeCase : Bytes → List Bytes → ℕ → Result Given Stop → Type 0
+AttributeCase s names at (Ok d) = AttributeTo s names at d.past d.value d.end
+AttributeCase s names at (Err x) = (may : Bool) (st : State) (g : Bytes) → st.seen ≡ names → StopCase s at x (attr_p may st g (drop at s))
 
--- an attribute that is not read
-abbrev pub lost_given : Step → Given
-lost_given r = record { past = 0; value = 0; end = r }
+pub record GivenSays (s : Bytes) (names : List Bytes) (at : ℕ) (r : Result Given Stop) : Type 0 where
+  pub says : AttributeCase s names at r
+
+-- the answer of `attribute`, and the marks before and after
+pub record AttributeSays (s : Bytes) (first at : ℕ) (marks marks' : List ℕ) (r : Result Given Stop) : Type 0 where
+  pub says : (h : Ready s first marks at) → GivenSays s h.stood.names at r
+  pub marked : (h : Ready s first marks at) (d : Given) → r ≡ Ok d → Marked marks' (take (d.past - at) (drop at s) ∷ h.stood.names)
+  pub long : length marks' ≡ length marks
 
 -- four numbers put into the row n of a table, if it reaches so far and they are small enough
 pub record PutRow (t t' : List ℕ) (n a b c d : ℕ) : Type 0 where
@@ -79,19 +80,9 @@ pub record EndRead (may : Bool) (s : Bytes) (at : ℕ) (empty : Bool) (e : ℕ) 
   pub upto : e ≤ length s
   pub reads : (st : State) (g : Bytes) → end_p may st g (drop at s) ≡ done (fin st g empty) (drop e s)
 
-pub record EndBad (may : Bool) (s : Bytes) (at p : ℕ) : Type 0 where
-  pub from : at ≤ p
-  pub inside : p < length s
-  pub reads : (st : State) (g : Bytes) → end_p may st g (drop at s) ≡ bad (drop p s)
+abbrev pub EndCase : Bool → Bytes → ℕ → ℕ → Result Tag Stop → Type 0
+EndCase may s at n (Ok t) = (t.count ≡ n) × EndRead may s at t.empty t.end
+EndCase may s at n (Err x) = (st : State) (g : Bytes) → StopCase s at x (end_p may st g (drop at s))
 
--- a tag that is not read
-abbrev pub failed_tag : Step → Tag
-failed_tag r = record { empty = false; count = 0; end = r }
-
-abbrev pub EndCase : Bool → Bytes → ℕ → ℕ → Bool → ℕ → Step → Type 0
-EndCase may s at n empty count (Done e) = (count ≡ n) × EndRead may s at empty e
-EndCase may s at n empty count Open = Nothing empty count × ((st : State) (g : Bytes) → end_p may st g (drop at s) ≡ more)
-EndCase may s at n empty count (Bad p) = Nothing empty count × EndBad may s at p
-
-pub record EndSays (may : Bool) (s : Bytes) (at n : ℕ) (r : Tag) : Type 0 where
-  pub says : EndCase may s at n r.empty r.count r.end
+pub record EndSays (may : Bool) (s : Bytes) (at n : ℕ) (r : Result Tag Stop) : Type 0 where
+  pub says : EndCase may s at n r

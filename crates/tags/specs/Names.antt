@@ -1,14 +1,12 @@
 -- Names that stand in a tag, and a name that is none of the earlier ones.
-use Rattle.std.specs.Prelude.{◌≡◌, List, [], ◌∷◌, ◌++◌, ◌⊎◌, Bool, true, false, ℕ, ◌+◌, ◌-◌, ◌*◌, ◌/◌, ◌%◌, ◌≤◌, ◌<◌, length, take, drop, get_or}
+use Rattle.std.specs.Prelude.{◌≡◌, List, [], ◌∷◌, ◌++◌, ◌⊎◌, Bool, true, false, ℕ, ◌+◌, ◌-◌, ◌*◌, ◌/◌, ◌%◌, ◌≤◌, ◌<◌, length, take, drop, get_or, Ok, Err}
 use Rattle.model.specs.Attributes.{State, equals_p, attr_p}
-use Rattle.exact.specs.Exact.{more, bad}
 use Rattle.grammar.specs.Bytes.{Bytes, every, among}
 use Rattle.grammar.specs.Limits.{NAME}
 use Rattle.grammar.specs.Glue.{is_glue}
 use Rattle.grammar.specs.Name.{name_start, name_byte, shaped}
 use Rattle.grammar.specs.Value.{is_quote}
-use Rattle.scan.specs.declared.Step.{Step}
-use Rattle.scan.specs.declared.Step.TheVariants.{Done, Open, Bad}
+use Rattle.scan.specs.Pieces.{StopCase, Step}
 
 -- the bytes from `at` up to i begin a name that is not full
 pub record Part (s : Bytes) (at i : ℕ) : Type 0 where
@@ -25,10 +23,6 @@ pub record Part (s : Bytes) (at i : ℕ) : Type 0 where
 pub record Run (s : Bytes) (at i : ℕ) : Type 0 where
   pub part : Part s at i
   pub stops : i < length s → name_byte (get_or s i 0) ≡ true → i ≡ at + (NAME - 1)
-
--- k bytes at a and at b are the same
-abbrev pub Agree : Bytes → ℕ → ℕ → ℕ → Type 0
-Agree s a b n = (k : ℕ) → k < n → get_or s (a + k) 0 ≡ get_or s (b + k) 0
 
 -- n bytes from i on may stand in a name
 abbrev pub Named : Bytes → ℕ → ℕ → Type 0
@@ -124,15 +118,9 @@ pub record FreshTo (s : Bytes) (earlier : List Bytes) (at e : ℕ) : Type 0 wher
   pub ends : name_byte (get_or s e 0) ≡ false
   pub reads : (may : Bool) (st : State) (g : Bytes) → st.seen ≡ earlier → attr_p may st g (drop at s) ≡ equals_p may st g (take (e - at) (drop at s)) (drop e s)
 
-pub record FreshBad (s : Bytes) (earlier : List Bytes) (at p : ℕ) : Type 0 where
-  pub from : at ≤ p
-  pub inside : p < length s
-  pub reads : (may : Bool) (st : State) (g : Bytes) → st.seen ≡ earlier → attr_p may st g (drop at s) ≡ bad (drop p s)
-
 abbrev pub FreshCase : Bytes → List Bytes → ℕ → Step → Type 0
-FreshCase s earlier at (Done e) = FreshTo s earlier at e
-FreshCase s earlier at Open = (may : Bool) (st : State) (g : Bytes) → st.seen ≡ earlier → attr_p may st g (drop at s) ≡ more
-FreshCase s earlier at (Bad p) = FreshBad s earlier at p
+FreshCase s earlier at (Ok e) = FreshTo s earlier at e
+FreshCase s earlier at (Err x) = (may : Bool) (st : State) (g : Bytes) → st.seen ≡ earlier → StopCase s at x (attr_p may st g (drop at s))
 
 pub record Fresh (s : Bytes) (earlier : List Bytes) (at : ℕ) (r : Step) : Type 0 where
   pub says : FreshCase s earlier at r
@@ -140,5 +128,5 @@ pub record Fresh (s : Bytes) (earlier : List Bytes) (at : ℕ) (r : Step) : Type
 -- the answer of `fresh`, and the marks before and after
 pub record FreshSays (s : Bytes) (first at : ℕ) (marks marks' : List ℕ) (r : Step) : Type 0 where
   pub says : (h : Ready s first marks at) → Fresh s h.stood.names at r
-  pub marked : (h : Ready s first marks at) (e : ℕ) → r ≡ Done e → Marked marks' (take (e - at) (drop at s) ∷ h.stood.names)
+  pub marked : (h : Ready s first marks at) (e : ℕ) → r ≡ Ok e → Marked marks' (take (e - at) (drop at s) ∷ h.stood.names)
   pub long : length marks' ≡ length marks

@@ -4,13 +4,13 @@ ghost use Rattle.std.specs.Prelude.{◌≡◌, true, ◌&&◌, not, ◌+◌, ◌
 ghost use Rattle.grammar.specs.Bytes.{same};
 ghost use Rattle.grammar.specs.Limits.{NAME, ATTRIBUTES};
 ghost use Rattle.grammar.specs.Name.{name_start, name_byte};
-ghost use Rattle.tags.specs.Names.{Part, Run, Agree, Named, Lacks, Found, Stood, Repeats, mark_of, Ready, Meets, NameTo, FreshSays};
-ghost use Rattle.tags.specs.Inner.{Opened, AttributeSays, lost_given, PutRow, EndSays, failed_tag};
+ghost use Rattle.tags.specs.Names.{Part, Run, Named, Found, Stood, Repeats, mark_of, Ready, Meets, NameTo, FreshSays};
+ghost use Rattle.tags.specs.Inner.{Opened, AttributeSays, PutRow, EndSays};
 ghost use Rattle.tags.specs.Heads.{HeadSays};
 
 use grammar::Limits;
 use pieces::values::{is_quote, value};
-use scan::Step;
+use scan::{Step, Stop};
 
 /// How many numbers a tag's table of places has: four for each attribute that it may have.
 pub const PLACES: usize = 4 * Limits::ATTRIBUTES;
@@ -23,146 +23,18 @@ pub type Places = [u16; PLACES];
 pub struct Tag {
     pub empty: bool,
     pub count: usize,
-    pub end: Step,
+    pub end: usize,
 }
 
-// 1 if the bytes are the same, else 0.
-fn equal(a: u8, b: u8) -> u8
-    ensures small { result ≤ 1 }
-    ensures one { result ≡ 1 → a ≡ b }
-{
-    (a == b) as u8
-}
-
-// Whether the eight bytes at a and at b are the same.
-fn eight_equal(s: &[u8], a: usize, b: usize) -> bool
-    requires { (a + 8 ≤ length s.now) × (b + 8 ≤ length s.now) }
-    ensures { result ≡ true → Agree s.now a b 8 }
-{
-    let n = equal(s[a], s[b])
-        + equal(s[a + 1], s[b + 1])
-        + equal(s[a + 2], s[b + 2])
-        + equal(s[a + 3], s[b + 3])
-        + equal(s[a + 4], s[b + 4])
-        + equal(s[a + 5], s[b + 5])
-        + equal(s[a + 6], s[b + 6])
-        + equal(s[a + 7], s[b + 7]);
-    n == 8
-}
-
-// How many of the n bytes at a and at b are the same, by eights.
-fn agree(s: &[u8], a: usize, b: usize, n: usize) -> usize
-    requires { (a + n ≤ length s.now) × (b + n ≤ length s.now) }
-    ensures { (result ≤ n) × Agree s.now a b result }
-{
-    let mut k = 0;
-    while 8 <= n - k {
-        if !eight_equal(s, a + k, b + k) {
-            return k;
-        }
-        k += 8;
-    }
-    k
-}
-
-// Whether the n bytes at a and at b are the same.
-fn alike(s: &[u8], a: usize, b: usize, n: usize) -> bool
-    requires { (a + n ≤ length s.now) × (b + n ≤ length s.now) }
-    ensures { result ≡ same (take n (drop a s.now)) (take n (drop b s.now)) }
-{
-    let mut k = agree(s, a, b, n);
-    while k < n {
-        if s[a + k] != s[b + k] {
-            return false;
-        }
-        k += 1;
-    }
-    true
-}
-
-// 1 if b is not q, else 0: a number, so that no branch is guessed.
-fn apart(b: u8, q: u8) -> u8
-    ensures small { result ≤ 1 }
-    ensures one { result ≡ 1 → b ≡ q → ⊥ }
-{
-    (b != q) as u8
-}
-
-// Whether none of the eight bytes at i is q.
-fn eight_apart(s: &[u8], i: usize, q: u8) -> bool
-    requires { i + 8 ≤ length s.now }
-    ensures { result ≡ true → Lacks q s.now i 8 }
-{
-    let n = apart(s[i], q)
-        + apart(s[i + 1], q)
-        + apart(s[i + 2], q)
-        + apart(s[i + 3], q)
-        + apart(s[i + 4], q)
-        + apart(s[i + 5], q)
-        + apart(s[i + 6], q)
-        + apart(s[i + 7], q);
-    n == 8
-}
-
-// Where fewer than eight bytes in a row are not `=`. This and the next one, and those for quotes, have one caller each: so they are put into it, and no
-// slice is handed over in the walk.
-fn equals_eights(s: &[u8], at: usize, stop: usize) -> usize
-    requires { (at ≤ stop) × (stop ≤ length s.now) }
-    ensures { (at ≤ result) × (result ≤ stop) × Lacks 61 s.now at (result - at) }
-{
-    let mut i = at;
-    while 8 <= stop - i {
-        if !eight_apart(s, i, b'=') {
-            return i;
-        }
-        i += 8;
-    }
-    i
-}
-
-// The first `=` from `at` on, before `stop`.
-fn next_equals(s: &[u8], at: usize, stop: usize) -> usize
-    requires { (at ≤ stop) × (stop ≤ length s.now) }
-    ensures { Found 61 s.now at stop result }
-{
-    let mut i = equals_eights(s, at, stop);
-    while i < stop {
-        if s[i] == b'=' {
-            return i;
-        }
-        i += 1;
-    }
-    i
-}
-
-// Where fewer than eight bytes in a row are not q.
-fn quote_eights(s: &[u8], at: usize, stop: usize, q: u8) -> usize
-    requires { (at ≤ stop) × (stop ≤ length s.now) }
-    ensures { (at ≤ result) × (result ≤ stop) × Lacks q s.now at (result - at) }
-{
-    let mut i = at;
-    while 8 <= stop - i {
-        if !eight_apart(s, i, q) {
-            return i;
-        }
-        i += 8;
-    }
-    i
-}
-
-// The first q from `at` on, before `stop`.
-fn next_quote(s: &[u8], at: usize, stop: usize, q: u8) -> usize
+// The first q from `at` on, before `stop`; `stop` if there is none.
+fn next(s: &[u8], at: usize, stop: usize, q: u8) -> usize
     requires { (at ≤ stop) × (stop ≤ length s.now) }
     ensures { Found q s.now at stop result }
 {
-    let mut i = quote_eights(s, at, stop, q);
-    while i < stop {
-        if s[i] == q {
-            return i;
-        }
-        i += 1;
+    match s[at..stop].iter().position(|&b| b == q) {
+        Some(n) => at + n,
+        None => stop,
     }
-    i
 }
 
 // Whether the n bytes at b are the whole name that stands at a.
@@ -176,7 +48,7 @@ fn stands_at(s: &[u8], a: usize, b: usize, n: usize) -> bool
     if scan::is_name_byte(s[a + n]) {
         return false;
     }
-    alike(s, a, b, n)
+    s[a..a + n] == s[b..b + n]
 }
 
 // Whether the name from `at` up to `to` is one of those of the attributes that stand from `first` on. They are known to be right: a name ends before
@@ -194,9 +66,9 @@ fn again(s: &[u8], first: usize, at: usize, to: usize) -> bool
         if stands_at(s, j, at, to - at) {
             return true;
         }
-        let e = next_equals(s, j, at);
+        let e = next(s, j, at, b'=');
         let a = scan::skip_glue(s, e + 1);
-        let f = next_quote(s, a + 1, at, s[a]);
+        let f = next(s, a + 1, at, s[a]);
         i = f + 1;
     }
 }
@@ -353,22 +225,22 @@ fn fresh(s: &[u8], first: usize, at: usize, marks: &mut [u8; 64]) -> Step
 {
     let i = name_run(s, at);
     if s.len() <= i {
-        return Step::Open;
+        return Err(Stop::Open);
     }
     let to = name_to(s, i);
     if met(s, first, at, to, &mut *marks) {
-        return Step::Bad(i);
+        return Err(Stop::Bad(i));
     }
     if to == i {
-        return Step::Done(i);
+        return Ok(i);
     }
     if s.len() - i < 2 {
-        return Step::Open;
+        return Err(Stop::Open);
     }
     if scan::is_name_byte(s[i + 1]) {
-        return Step::Bad(i + 1);
+        return Err(Stop::Bad(i + 1));
     }
-    Step::Done(i + 1)
+    Ok(i + 1)
 }
 
 // Behind an attribute's name, up to the first byte of its value.
@@ -376,22 +248,13 @@ fn opened(s: &[u8], at: usize) -> Step
     requires { at ≤ length s.now }
     ensures { Opened s.now at result }
 {
-    let r = scan::glue(s, at);
-    let Step::Done(i) = r else {
-        return r;
-    };
-    let r = scan::byte(s, i, b'=');
-    let Step::Done(j) = r else {
-        return r;
-    };
-    let r = scan::glue(s, j);
-    let Step::Done(k) = r else {
-        return r;
-    };
+    let i = scan::glue(s, at)?;
+    let j = scan::byte(s, i, b'=')?;
+    let k = scan::glue(s, j)?;
     if is_quote(s[k]) {
-        return Step::Done(k + 1);
+        return Ok(k + 1);
     }
-    Step::Bad(k)
+    Err(Stop::Bad(k))
 }
 
 /// An attribute from its name on: where its name ends, where its raw value starts, and where it ends.
@@ -399,39 +262,22 @@ fn opened(s: &[u8], at: usize) -> Step
 pub struct Given {
     pub past: usize,
     pub value: usize,
-    pub end: Step,
-}
-
-// An attribute that is not read.
-fn lost(end: Step) -> Given
-    ensures { result ≡ lost_given end }
-{
-    Given {
-        past: 0,
-        value: 0,
-        end,
-    }
+    pub end: usize,
 }
 
 // An attribute, from its name on, whose name none of those from `first` on has.
-fn attribute(s: &[u8], first: usize, at: usize, marks: &mut [u8; 64]) -> Given
+fn attribute(s: &[u8], first: usize, at: usize, marks: &mut [u8; 64]) -> Result<Given, Stop>
     requires { Ready s.now first marks.old at }
     ensures { AttributeSays s.now first at marks.old marks.new result }
 {
-    let r = fresh(s, first, at, &mut *marks);
-    let Step::Done(e) = r else {
-        return lost(r);
-    };
-    let r = opened(s, e);
-    let Step::Done(v) = r else {
-        return lost(r);
-    };
-    let r = value(s, v, s[v - 1]);
-    Given {
-        past: e,
-        value: v,
-        end: r,
-    }
+    let past = fresh(s, first, at, &mut *marks)?;
+    let from = opened(s, past)?;
+    let end = value(s, from, s[from - 1])?;
+    Ok(Given {
+        past,
+        value: from,
+        end,
+    })
 }
 
 // Whether an attribute comes: glue stands before it, the tag has room for it, and a name starts.
@@ -447,47 +293,33 @@ fn goes_on(b: u8, glue: usize, n: usize) -> bool
     scan::is_name_start(b)
 }
 
-// A tag that is not read.
-fn failed(end: Step) -> Tag
-    ensures { result ≡ failed_tag end }
-{
-    Tag {
-        empty: false,
-        count: 0,
-        end,
-    }
-}
-
-// The end of a tag with n attributes: `>`, or where it may be `/>`.
-fn tag_end(s: &[u8], at: usize, may: bool, n: usize) -> Tag
+// The end of a tag with so many attributes: `>`, or where it may be `/>`.
+fn tag_end(s: &[u8], at: usize, may: bool, count: usize) -> Result<Tag, Stop>
     requires { at < length s.now }
-    ensures { EndSays may s.now at n result }
+    ensures { EndSays may s.now at count result }
 {
     if s[at] == b'>' {
-        return Tag {
+        return Ok(Tag {
             empty: false,
-            count: n,
-            end: Step::Done(at + 1),
-        };
+            count,
+            end: at + 1,
+        });
     }
     if !may {
-        return failed(Step::Bad(at));
+        return Err(Stop::Bad(at));
     }
-    let r = scan::literal(s, at, b"/>");
-    let Step::Done(e) = r else {
-        return failed(r);
-    };
-    Tag {
+    let end = scan::literal(s, at, b"/>")?;
+    Ok(Tag {
         empty: true,
-        count: n,
-        end: Step::Done(e),
-    }
+        count,
+        end,
+    })
 }
 
 /// Attributes, glue and the end of a tag. may: whether it may be an empty tag.
 /// In a table that is lent for them the numbers 4k to 4k + 3 are where the name of the attribute k starts and ends, and where its raw value does,
 /// counted from `at`. An empty one is lent where nobody asks.
-pub fn head(s: &[u8], at: usize, may: bool, table: &mut [u16]) -> Tag
+pub fn head(s: &[u8], at: usize, may: bool, table: &mut [u16]) -> Result<Tag, Stop>
     requires { at ≤ length s.now }
     ensures { HeadSays may s.now at table.old table.new result }
 {
@@ -495,27 +327,20 @@ pub fn head(s: &[u8], at: usize, may: bool, table: &mut [u16]) -> Tag
     let mut n = 0;
     let mut i = at;
     loop {
-        let r = scan::glue(s, i);
-        let Step::Done(j) = r else {
-            return failed(r);
-        };
+        let j = scan::glue(s, i)?;
         if !goes_on(s[j], j - i, n) {
             return tag_end(s, j, may, n);
         }
-        let g = attribute(s, at, j, &mut marks);
-        let r = g.end;
-        let Step::Done(e) = r else {
-            return failed(r);
-        };
+        let g = attribute(s, at, j, &mut marks)?;
         put(
             &mut *table,
             n,
             j - at,
             g.past - at,
             g.value - at,
-            e - 1 - at,
+            g.end - 1 - at,
         );
         n += 1;
-        i = e;
+        i = g.end;
     }
 }

@@ -19,20 +19,20 @@ stands_at-requires c = (omega arith, omega arith, omega arith)
 pub returns-then-stands_at : goal.returns-then-stands_at
 returns-then-stands_at c = walk_found _ _ _ _ _ _ c.loop-first.invariant c.skip_glue-j.ensures (omega arith) (omega arith) c.requires.2 c.requires.3 (sym c.if-stands_at.true ∙ c.stands_at.ensures)
 
-pub next_equals-e-requires : goal.next_equals-e-requires
-next_equals-e-requires c = (omega arith, omega arith)
+pub next-e-requires : goal.next-e-requires
+next-e-requires c = (omega arith, omega arith)
 
 pub skip_glue-a-requires : goal.skip_glue-a-requires
-skip_glue-a-requires c = walk_equals _ _ _ _ _ _ c.loop-first.invariant c.skip_glue-j.ensures (omega arith) (omega arith) c.requires.2 c.requires.3 _ c.next_equals-e.ensures c.requires.0
+skip_glue-a-requires c = walk_equals _ _ _ _ _ _ c.loop-first.invariant c.skip_glue-j.ensures (omega arith) (omega arith) c.requires.2 c.requires.3 _ c.next-e.ensures c.requires.0
 
 pub overflow_add-a : goal.overflow_add-a
-overflow_add-a c = let z = walk_opens _ _ _ _ _ _ c.loop-first.invariant c.skip_glue-j.ensures (omega arith) (omega arith) c.requires.2 c.requires.3 _ c.next_equals-e.ensures _ c.skip_glue-a.ensures c.requires.0 in omega arith
+overflow_add-a c = let z = walk_opens _ _ _ _ _ _ c.loop-first.invariant c.skip_glue-j.ensures (omega arith) (omega arith) c.requires.2 c.requires.3 _ c.next-e.ensures _ c.skip_glue-a.ensures c.requires.0 in omega arith
 
 pub bounds-s-a : goal.bounds-s-a
-bounds-s-a c = let z = walk_opens _ _ _ _ _ _ c.loop-first.invariant c.skip_glue-j.ensures (omega arith) (omega arith) c.requires.2 c.requires.3 _ c.next_equals-e.ensures _ c.skip_glue-a.ensures c.requires.0 in omega arith
+bounds-s-a c = let z = walk_opens _ _ _ _ _ _ c.loop-first.invariant c.skip_glue-j.ensures (omega arith) (omega arith) c.requires.2 c.requires.3 _ c.next-e.ensures _ c.skip_glue-a.ensures c.requires.0 in omega arith
 
-pub next_quote-f-requires : goal.next_quote-f-requires
-next_quote-f-requires c = let z = walk_opens _ _ _ _ _ _ c.loop-first.invariant c.skip_glue-j.ensures (omega arith) (omega arith) c.requires.2 c.requires.3 _ c.next_equals-e.ensures _ c.skip_glue-a.ensures c.requires.0 in (omega arith, omega arith)
+pub next-f-requires : goal.next-f-requires
+next-f-requires c = let z = walk_opens _ _ _ _ _ _ c.loop-first.invariant c.skip_glue-j.ensures (omega arith) (omega arith) c.requires.2 c.requires.3 _ c.next-e.ensures _ c.skip_glue-a.ensures c.requires.0 in (omega arith, omega arith)
 
 pub loop-first-preserved : goal.loop-first-preserved
-loop-first-preserved c = walk_on _ _ _ _ _ _ c.loop-first.invariant c.skip_glue-j.ensures (omega arith) (omega arith) c.requires.2 c.requires.3 _ c.next_equals-e.ensures _ c.skip_glue-a.ensures _ c.next_quote-f.ensures (sym c.if-stands_at.false ∙ c.stands_at.ensures)
+loop-first-preserved c = walk_on _ _ _ _ _ _ c.loop-first.invariant c.skip_glue-j.ensures (omega arith) (omega arith) c.requires.2 c.requires.3 _ c.next-e.ensures _ c.skip_glue-a.ensures _ c.next-f.ensures (sym c.if-stands_at.false ∙ c.stands_at.ensures)

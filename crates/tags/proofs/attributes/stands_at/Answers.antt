@@ -6,7 +6,7 @@ use Prim.Native.Nat.{◌+◌}
 use lib.ListN.{take, drop, get_or}
 use Rattle.grammar.specs.Bytes.{same}
 use Rattle.grammar.specs.Name.{name_byte}
-use Rattle.tags.proofs.CompareLaws.{first_differs}
+use Rattle.tags.proofs.CompareLaws.{first_differs, stands_same}
 use Rattle.tags.proofs.attributes.stands_at.Goals as goal
 
 -- The first byte decides, then the byte behind, then all.
@@ -17,4 +17,4 @@ pub returns-then-is_name_byte : goal.returns-then-is_name_byte
 returns-then-is_name_byte c = sym (ap (λ (z : Bool). not z && same (take c.args.n (drop c.args.a c.args.s.now)) (take c.args.n (drop c.args.b c.args.s.now))) (sym c.is_name_byte.ensures ∙ c.if-is_name_byte.true))
 
 pub returns : goal.returns
-returns c = c.alike.ensures ∙ sym (ap (λ (z : Bool). not z && same (take c.args.n (drop c.args.a c.args.s.now)) (take c.args.n (drop c.args.b c.args.s.now))) (sym c.is_name_byte.ensures ∙ c.if-is_name_byte.false))
+returns c = stands_same c.args.s.now c.args.a c.args.b c.args.n _ _ c.eq.ensures (sym c.is_name_byte.ensures ∙ c.if-is_name_byte.false)
