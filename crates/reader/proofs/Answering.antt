@@ -19,12 +19,11 @@ use Rattle.model.specs.Messages.{layout_p, message_p}
 use Rattle.model.proofs.Messages.{layout_exact}
 use Rattle.model.specs.Answers.{answer_at, Window}
 use Rattle.model.proofs.Answers.{answers, window_behind, from_window}
-use Rattle.scan.specs.Pieces.{Got, Skipped}
-use Rattle.scan.proofs.Chain.{known}
-use Rattle.scan.specs.declared.Step.{Step}
-use Rattle.scan.specs.declared.Step.TheVariants.{Done, Open, Bad}
+use Rattle.scan.specs.Pieces.{Skipped}
+use Rattle.std.specs.Prelude.{Err}
+use Rattle.scan.specs.declared.Stop.TheVariants.{Open, Bad}
 use Rattle.grammar.specs.Places.{child_of, lead}
-use Rattle.reader.specs.Message.{Drawn, GotInner}
+use Rattle.reader.specs.Message.{InnerRead, GotInner}
 use Rattle.reader.specs.Answer.{AtMost, bare, Outlined}
 use Rattle.reader.specs.declared.message.Inner.{Inner}
 use Rattle.reader.specs.declared.answer.Answer.TheVariants.{Ends, More, Malformed, TooLong}
@@ -102,56 +101,45 @@ module _ (s : Bytes) (start n : ℕ) (k : Skipped s 0 start) (m : AtMost (length
   the_answer : Answers s (answer_at start w)
   the_answer = subst (λ (a : ℕ). Answers s (answer_at a w)) long_g (from_window glue_behind in_window (answer_at (length g) w) (answers (window_behind glue_behind in_window)))
 
-  pub outline_ends : (old new : List ℕ) (r : Inner) {e : ℕ} → GotInner child_of lead part start old new r (layout_p w) → r.end ≡ Done e → Outlined s old new (record { answer = Ends start e; from = r.from; to = r.to; count = r.count; inside = r.inside })
-  outline_ends old new r {e} c q = record { answers = subst (λ (a : PaperAnswer). Answers s a) there the_answer; rest = record { layout = l; laid = laid; lines = drawn.lines; table = λ h. drawn.table.noted (record { whole = h; short = fits }) } }
-    where
-      l : Layout
-      l = (known q c.got).says.0
+  module _ (old new : List ℕ) where
+    pub outline_ends : (r : Inner) → InnerRead child_of lead part start old new r (layout_p w) → Outlined s old new (record { answer = Ends start r.end; from = r.from; to = r.to; count = r.count; inside = r.inside })
+    outline_ends r c = record { answers = subst (λ (a : PaperAnswer). Answers s a) there the_answer; rest = record { layout = c.value; laid = laid; lines = c.drawn.lines; table = λ h. c.drawn.table.noted (record { whole = h; short = fits }) } }
+      where
+        fits : length part ≤ r.to + MESSAGE
+        fits = let a = long_part in let b = m.small in let d = c.drawn.lines.ends in omega arith
 
-      so : layout_p w ≡ done l (drop e part)
-      so = (known q c.got).says.3
+        least : start + 1 ≤ r.end
+        least = c.far
 
-      drawn : Drawn part (start + length (lead l)) (child_of l) r.from r.to r.count r.inside old new
-      drawn = c.lines l e q so
+        room : r.end ≤ length part
+        room = c.upto
 
-      fits : length part ≤ r.to + MESSAGE
-      fits = let a = long_part in let b = m.small in let d = drawn.lines.ends in omega arith
+        size : start + (length w - length (drop r.end part)) ≡ r.end
+        size = omega (arith, long_w, long_part, length-drop r.end part, least, room)
 
-      least : start + 1 ≤ e
-      least = (known q c.got).says.1
+        there : answer_at start w ≡ ends_at start r.end
+        there = answer_done start w c.value (drop r.end part) c.reads (omega (arith, long_w, m.small)) ∙ ap (ends_at start) size
 
-      room : e ≤ length part
-      room = (known q c.got).says.2
+        laid : Laid (take (r.end - start) (drop start s)) c.value
+        laid =
+            let (u, i, j, x) = spanned layout_exact part start r.end c.value (omega (arith, least)) room c.reads in
+            let y : take (r.end - start) (drop start s) ≡ u = sym (take-take (r.end - start) n (drop start s) (omega (arith, room, long_part))) ∙ ap (λ (y : Bytes). take (r.end - start) y) (sym window_is) ∙ j in
+            subst (λ (y : Bytes). Laid y c.value) (sym y) x
 
-      size : start + (length w - length (drop e part)) ≡ e
-      size = omega (arith, long_w, long_part, length-drop e part, least, room)
+    module _ (o : Outline) where
+      pub outline_more : GotInner child_of lead part start old new (Err Open) (layout_p w) → o ≡ bare (More start) → n < MESSAGE → Outlined s old new o
+      outline_more c q h =
+          let there : answer_at start w ≡ more_from start = answer_more start w c.says (omega (arith, long_w)) in
+          rw q (record { answers = subst (λ (a : PaperAnswer). Answers s a) there the_answer; rest = (refl, refl, refl, refl) })
 
-      there : answer_at start w ≡ ends_at start e
-      there = answer_done start w l (drop e part) so (omega (arith, long_w, m.small)) ∙ ap (ends_at start) size
+      pub outline_long : GotInner child_of lead part start old new (Err Open) (layout_p w) → o ≡ bare (TooLong start) → MESSAGE ≤ n → Outlined s old new o
+      outline_long c q h =
+          let there : answer_at start w ≡ too_long_from start = answer_long start w c.says (omega (arith, long_w)) in
+          rw q (record { answers = subst (λ (a : PaperAnswer). Answers s a) there the_answer; rest = (refl, refl, refl, refl) })
 
-      laid : Laid (take (e - start) (drop start s)) l
-      laid =
-          let (u, i, j, x) = spanned layout_exact part start e l (omega (arith, least)) room so in
-          let y : take (e - start) (drop start s) ≡ u = sym (take-take (e - start) n (drop start s) (omega (arith, room, long_part))) ∙ ap (λ (y : Bytes). take (e - start) y) (sym window_is) ∙ j in
-          subst (λ (y : Bytes). Laid y l) (sym y) x
-
-  module _ (old new : List ℕ) (r : Inner) (c : GotInner child_of lead part start old new r (layout_p w)) (o : Outline) where
-    said : {x : Step} → r.end ≡ x → Got 1 part start x (layout_p w)
-    said q = subst (λ (x : Step). Got 1 part start x (layout_p w)) q c.got
-
-    pub outline_more : r.end ≡ Open → o ≡ bare (More start) → n < MESSAGE → Outlined s old new o
-    outline_more z q h =
-        let there : answer_at start w ≡ more_from start = answer_more start w (said z).says (omega (arith, long_w)) in
-        rw q (record { answers = subst (λ (a : PaperAnswer). Answers s a) there the_answer; rest = (refl, refl, refl, refl) })
-
-    pub outline_long : r.end ≡ Open → o ≡ bare (TooLong start) → MESSAGE ≤ n → Outlined s old new o
-    outline_long z q h =
-        let there : answer_at start w ≡ too_long_from start = answer_long start w (said z).says (omega (arith, long_w)) in
-        rw q (record { answers = subst (λ (a : PaperAnswer). Answers s a) there the_answer; rest = (refl, refl, refl, refl) })
-
-    pub outline_bad : {p : ℕ} → r.end ≡ Bad p → o ≡ bare (Malformed start p) → Outlined s old new o
-    outline_bad {p} z q =
-        let y = (said z).says in
-        let size : start + (length w - length (drop p part)) ≡ p = omega (arith, long_w, long_part, length-drop p part) in
-        let there : answer_at start w ≡ malformed_at start p = answer_bad start w (drop p part) y.2 (omega (arith, long_w, long_part, length-drop p part, m.small)) ∙ ap (malformed_at start) size in
-        rw q (record { answers = subst (λ (a : PaperAnswer). Answers s a) there the_answer; rest = (refl, refl, refl, refl) })
+      pub outline_bad : {p : ℕ} → GotInner child_of lead part start old new (Err (Bad p)) (layout_p w) → o ≡ bare (Malformed start p) → Outlined s old new o
+      outline_bad {p} c q =
+          let y = c.says in
+          let size : start + (length w - length (drop p part)) ≡ p = omega (arith, long_w, long_part, length-drop p part) in
+          let there : answer_at start w ≡ malformed_at start p = answer_bad start w (drop p part) y.2 (omega (arith, long_w, long_part, length-drop p part, m.small)) ∙ ap (malformed_at start) size in
+          rw q (record { answers = subst (λ (a : PaperAnswer). Answers s a) there the_answer; rest = (refl, refl, refl, refl) })

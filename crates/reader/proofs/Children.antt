@@ -18,13 +18,14 @@ use Rattle.model.proofs.Fillers.{fill_exact}
 use Rattle.model.specs.Elements.{elem_p, content_p, IsElement}
 use Rattle.model.proofs.Elements.{element_lt, element_no_bang, read_exact}
 use Rattle.scan.specs.Pieces.{Got, chained}
-use Rattle.scan.proofs.Chain.{then_done, Fails, never, pass, moved, known}
-use Rattle.scan.specs.declared.Step.{Step}
-use Rattle.scan.specs.declared.Step.TheVariants.{Done, Open, Bad}
+use Rattle.scan.proofs.Chain.{then_done, pass, moved}
+use Rattle.std.specs.Prelude.{Ok, Err}
+use Rattle.scan.specs.declared.Stop.{Stop}
+use Rattle.scan.specs.declared.Stop.TheVariants.{Open, Bad}
 use Rattle.fillers.specs.Fills.{fill_tok, GotFiller}
 use Rattle.fillers.proofs.Fills.{fill_bind, fill_word}
 use Rattle.grammar.specs.Places.{Outlines}
-use Rattle.reader.specs.Message.{itself, none, GotInner}
+use Rattle.reader.specs.Message.{itself, none, InnerRead, GotInner}
 use Rattle.reader.specs.Child.{no_child, Next, Stands, NextChild}
 use Rattle.reader.specs.declared.message.Inner.{Inner}
 use Rattle.reader.specs.declared.answer.Child.{Child}
@@ -57,16 +58,12 @@ next_read {w} {f} {x} n =
     ap next_p e ∙ next_exact.comp (spell_filler f ++ code "<" ∷ u) x n.rest (filled f u refl n.filler (record { good = n.element; spelt = i }))
 
 -- the filler that was read stands there
-filler_word : (s : Bytes) (at j : ℕ) (g : Got 1 s at (Done j) (fill_tok below_root (drop at s))) → (drop at s ≡ spell_filler g.says.0 ++ code "<" ∷ drop j s) × GoodFiller below_root g.says.0
+filler_word : (s : Bytes) (at j : ℕ) (g : Got 1 s at (Ok j) (fill_tok below_root (drop at s))) → (drop at s ≡ spell_filler g.says.0 ++ code "<" ∷ drop j s) × GoodFiller below_root g.says.0
 filler_word s at j g = fill_word below_root (drop at s) g.says.0 (drop j s) g.says.3
 
-fails_none : {s : Bytes} {at : ℕ} {r : Step} → Fails r → Got 1 s at r (next_p (drop at s)) → (f : Filler) (x : Element) → ¬ Next (drop at s) f x
-fails_none {s} {at} {r} a g f x n = go r a g
-  where
-    go : (r : Step) → Fails r → Got 1 s at r (next_p (drop at s)) → ⊥
-    go (Done e) a g = never a
-    go Open a g = done≢more (next_read n) g.says
-    go (Bad p) a g = done≢bad (next_read n) g.says.2
+fails_none : {s : Bytes} {at : ℕ} (x : Stop) → Got 1 s at (Err x) (next_p (drop at s)) → (f : Filler) (y : Element) → ¬ Next (drop at s) f y
+fails_none Open g f y n = done≢more (next_read n) g.says
+fails_none (Bad p) g f y n = done≢bad (next_read n) g.says.2
 
 module _ (s : Bytes) (at : ℕ) (r : Child) where
   -- no child
@@ -74,49 +71,42 @@ module _ (s : Bytes) (at : ℕ) (r : Child) where
   absent q n = record { found = λ z. clash (sym z ∙ ap (λ (c : Child). c.found) q); none = λ z. (q, n) }
 
   pub child_out : length s < at → r ≡ no_child → NextChild s at r
-  child_out h q = absent q (fails_none {s = s} {at = at} {r = Open} (λ e q. absurd (let z : Open ≡ Done e = q in cc)) (record { says = let k : length s ≤ at = omega arith in ap next_p (drop_of_length-le s k) ∙ next_open }))
+  child_out h q = absent q (fails_none {s = s} {at = at} Open (record { says = let k : length s ≤ at = omega arith in ap next_p (drop_of_length-le s k) ∙ next_open }))
 
-  pub child_bare : {x : Step} → Fails x → GotFiller below_root s at x → r ≡ no_child → NextChild s at r
-  child_bare f g q = absent q (fails_none f (pass f g.says 1 at (omega arith) _ (next_bind (drop at s))))
+  pub child_bare : {x : Stop} → GotFiller below_root s at (Err x) → r ≡ no_child → NextChild s at r
+  child_bare {x} g q = absent q (fails_none x (pass g.says 1 at (omega arith) _ (next_bind (drop at s))))
 
-  module _ (j : ℕ) (g₁ : Got 1 s at (Done j) (fill_tok below_root (drop at s))) (old new : List ℕ) (c : Inner) (g : GotInner itself none s j old new c (element_p (drop j s))) where
+  module _ (j : ℕ) (g₁ : Got 1 s at (Ok j) (fill_tok below_root (drop at s))) (old new : List ℕ) where
     so : next_p (drop at s) ≡ element_p (drop j s)
     so = next_bind (drop at s) ∙ then_done _ g₁.says.3
 
-    pub child_none : Fails c.end → r ≡ no_child → NextChild s at r
-    child_none f q = absent q (fails_none f (moved g.got 1 at (let h = g₁.says.1 in omega arith) (let h = g₁.says.1 in omega arith) so))
+    pub child_none : {x : Stop} → GotInner itself none s j old new (Err x) (element_p (drop j s)) → r ≡ no_child → NextChild s at r
+    child_none {x} g q =
+        let g' : Got 1 s j (Err x) (element_p (drop j s)) = record { says = g.says } in
+        absent q (fails_none x (moved g' 1 at (let h = g₁.says.1 in omega arith) (let h = g₁.says.1 in omega arith) so))
 
-    pub child_found : {e : ℕ} → c.end ≡ Done e → r ≡ record { found = true; from = c.from; to = c.to; count = c.count; inside = c.inside; next = e } → NextChild s at r
-    child_found {e} z q = record { found = λ _. stands; none = λ y. clash (sym (ap (λ (c : Child). c.found) q) ∙ y) }
+    pub child_found : {c : Inner} → InnerRead itself none s j old new c (element_p (drop j s)) → r ≡ record { found = true; from = c.from; to = c.to; count = c.count; inside = c.inside; next = c.end } → NextChild s at r
+    child_found {c} g q = record { found = λ _. stands; none = λ y. clash (sym (ap (λ (c : Child). c.found) q) ∙ y) }
       where
         x : Element
-        x = (known z g.got).says.0
+        x = g.value
 
         f : Filler
         f = g₁.says.0
-
-        said : element_p (drop j s) ≡ done x (drop e s)
-        said = (known z g.got).says.3
-
-        least : j + 1 ≤ e
-        least = (known z g.got).says.1
-
-        room : e ≤ length s
-        room = (known z g.got).says.2
 
         place : j ≡ at + length (spell_filler f) + 1
         place = filler_there below_root s at j g₁
 
         stands : Stands s at r
         stands =
-            let (u, i, l) = sound (read_exact (DEPTH - 3)) (drop j s) x (drop e s) said in
+            let (u, i, l) = sound (read_exact (DEPTH - 3)) (drop j s) x (drop c.end s) g.reads in
             let (w, good) = filler_word s at j g₁ in
-            let n : length s - j ≡ length u + (length s - e) = sym (length-drop j s) ∙ ap length i ∙ length-append u (drop e s) ∙ ap (λ (m : ℕ). length u + m) (length-drop e s) in
+            let n : length s - j ≡ length u + (length s - c.end) = sym (length-drop j s) ∙ ap length i ∙ length-append u (drop c.end s) ∙ ap (λ (m : ℕ). length u + m) (length-drop c.end s) in
             let k : suc (length u) ≡ length (spell_element x) = ap length l.spelt in
             subst (λ (r : Child). Stands s at r) (sym q) (record {
               f = f;
               x = x;
-              next = record { rest = drop e s; filler = good; element = l.good; whole = w ∙ ap (λ (y : Bytes). spell_filler f ++ code "<" ∷ y) i ∙ ap (λ (y : Bytes). spell_filler f ++ (y ++ drop e s)) l.spelt };
-              lines = subst (λ (m : ℕ). Outlines m x c.from c.to c.count c.inside) (let p = place in omega arith) (g.lines x e z said).lines;
-              ends = let p = place in let a = least in let b = room in omega arith;
+              next = record { rest = drop c.end s; filler = good; element = l.good; whole = w ∙ ap (λ (y : Bytes). spell_filler f ++ code "<" ∷ y) i ∙ ap (λ (y : Bytes). spell_filler f ++ (y ++ drop c.end s)) l.spelt };
+              lines = subst (λ (m : ℕ). Outlines m x c.from c.to c.count c.inside) (let p = place in omega arith) g.drawn.lines;
+              ends = let p = place in let a = g.far in let b = g.upto in omega arith;
             })

@@ -1,15 +1,13 @@
 -- What the answers of the readers of the declaration say of the models.
-use Rattle.std.specs.Prelude.{◌≡◌, List, [], ◌∷◌, Bool, ℕ, ◌+◌, ◌-◌, ◌≤◌, ◌<◌, length, drop, get_or}
-use Rattle.scan.specs.Pieces.{Got, word_p, glue_tok, chained, glued_p}
+use Rattle.std.specs.Prelude.{◌≡◌, List, [], ◌∷◌, Bool, ℕ, ◌+◌, ◌-◌, ◌≤◌, length, drop, get_or, Ok, Err}
+use Rattle.scan.specs.Pieces.{StopCase, Got, word_p, glue_tok, chained, Step, glued_p}
 use Rattle.model.specs.Declarations.{fits_p, setting_p, behind_standalone_p, standalone_or_end_p, behind_encoding_p, behind_version_p}
-use Rattle.exact.specs.Exact.{done, more, bad, Reader}
+use Rattle.exact.specs.Exact.{done, Reader}
 use Rattle.exact.specs.Chain.{ret_p}
 use Rattle.exact.specs.Byte.{on_p}
 use Rattle.grammar.specs.Bytes.{Bytes, either}
 use Rattle.grammar.specs.Value.{is_quote}
 use Rattle.grammar.specs.Declaration.{Optional, Declaration}
-use Rattle.scan.specs.declared.Step.{Step}
-use Rattle.scan.specs.declared.Step.TheVariants.{Done, Open, Bad}
 
 -- each byte is one of two
 abbrev pub pairs : Bytes → Bytes → List (ℕ → Bool)
@@ -36,9 +34,8 @@ unfoldable pub open_p : Bytes → Reader Opening
 open_p name t = chained (word_p name t) (λ _ u. chained (glued_p 61 u) (λ m v. chained (glue_tok v) (λ a w. quote_p m a w)))
 
 abbrev pub OpenCase : Bytes → Bytes → ℕ → Step → Type 0
-OpenCase name s at (Done e) = (o : Opening) × (o.quote ≡ get_or s (e - 1) 0) × (at + 1 ≤ e) × (e ≤ length s) × (open_p name (drop at s) ≡ done o (drop e s))
-OpenCase name s at Open = open_p name (drop at s) ≡ more
-OpenCase name s at (Bad p) = (at ≤ p) × (p < length s) × (open_p name (drop at s) ≡ bad (drop p s))
+OpenCase name s at (Ok e) = (o : Opening) × (o.quote ≡ get_or s (e - 1) 0) × (at + 1 ≤ e) × (e ≤ length s) × (open_p name (drop at s) ≡ done o (drop e s))
+OpenCase name s at (Err x) = StopCase s at x (open_p name (drop at s))
 
 pub record GotOpen (name s : Bytes) (at : ℕ) (r : Step) : Type 0 where
   pub says : OpenCase name s at r

@@ -1,5 +1,5 @@
 -- What the answers of the readers of the root and of messages say of the models.
-use Rattle.std.specs.Prelude.{◌≡◌, List, [], ℕ, ◌+◌, ◌-◌, length, drop}
+use Rattle.std.specs.Prelude.{◌≡◌, List, [], ℕ, ◌+◌, ◌-◌, ◌≤◌, length, drop, Result, Ok, Err}
 use Rattle.exact.specs.Exact.{Out, done, Reader}
 use Rattle.grammar.specs.Bytes.{Bytes}
 use Rattle.grammar.specs.Limits.{DEPTH}
@@ -10,16 +10,12 @@ use Rattle.model.specs.Attributes.{Head}
 use Rattle.model.specs.Elements.{elem_p, content_p}
 use Rattle.model.specs.Declarations.{declaration_p}
 use Rattle.model.specs.Messages.{mk_root, root_p}
-use Rattle.scan.specs.Pieces.{Got, chained, end_tag_p}
-use Rattle.scan.specs.declared.Step.{Step}
-use Rattle.scan.specs.declared.Step.TheVariants.{Done}
+use Rattle.scan.specs.Pieces.{StopCase, chained, end_tag_p}
+use Rattle.scan.specs.declared.Stop.{Stop}
 use Rattle.fillers.specs.Fills.{fill_tok}
 use Rattle.tags.specs.Heads.{Noted}
 use Rattle.grammar.specs.Places.{inner_of, tag_in, lead, Outlines}
 use Rattle.reader.specs.declared.message.Inner.{Inner}
-
-abbrev pub with_end : Inner → Step → Inner
-with_end c end = record { end = end; from = c.from; to = c.to; count = c.count; inside = c.inside }
 
 -- of what was read, the root's child and what stands before the child's name
 abbrev pub itself : Element → Element
@@ -33,16 +29,27 @@ pub record Drawn (s : Bytes) (at : ℕ) (x : Element) (from to count inside : �
   pub lines : Outlines at x from to count inside
   pub table : Noted s to old new (tag_in x).attributes
 
--- what the answer says of the outcome o; and, if v was read, where v's child stands and what the table holds
-pub record GotInner {A : Type 0} (child : A → Element) (before : A → Bytes) (s : Bytes) (at : ℕ) (old new : List ℕ) (r : Inner) (o : Out A) : Type 0 where
-  pub got : Got 1 s at r.end o
-  pub lines : (v : A) (e : ℕ) → r.end ≡ Done e → o ≡ done v (drop e s) → Drawn s (at + length (before v)) (child v) r.from r.to r.count r.inside old new
+-- o is an outcome whose value's child stands there
+pub record InnerRead {A : Type 0} (child : A → Element) (before : A → Bytes) (s : Bytes) (at : ℕ) (old new : List ℕ) (r : Inner) (o : Out A) : Type 0 where
+  pub value : A
+  pub far : at + 1 ≤ r.end
+  pub upto : r.end ≤ length s
+  pub reads : o ≡ done value (drop r.end s)
+  pub drawn : Drawn s (at + length (before value)) (child value) r.from r.to r.count r.inside old new
+
+abbrev pub InnerCase : {A : Type 0} → (A → Element) → (A → Bytes) → Bytes → ℕ → List ℕ → List ℕ → Result Inner Stop → Out A → Type 0
+InnerCase child before s at old new (Ok r) o = InnerRead child before s at old new r o
+InnerCase child before s at old new (Err x) o = StopCase s at x o
+
+-- what the answer says of the outcome o; and of what was read where its child stands and what the table holds
+pub record GotInner {A : Type 0} (child : A → Element) (before : A → Bytes) (s : Bytes) (at : ℕ) (old new : List ℕ) (r : Result Inner Stop) (o : Out A) : Type 0 where
+  pub says : InnerCase child before s at old new r o
 
 -- the root's child, filler and the end tag, whatever was read before
 unfoldable pub inside_p : Bytes → Head → Filler → Reader Root
 inside_p n h f t = chained (elem_p (content_p (DEPTH - 2)) t) (λ e x. chained (fill_tok in_root x) (λ f' y. chained (end_tag_p n y) (λ g z. done (mk_root h f e f' g) z)))
 
-pub record GotInside (n s : Bytes) (at : ℕ) (old new : List ℕ) (r : Inner) : Type 0 where
+pub record GotInside (n s : Bytes) (at : ℕ) (old new : List ℕ) (r : Result Inner Stop) : Type 0 where
   pub says : (h : Head) (f : Filler) → GotInner inner_of none s at old new r (inside_p n h f (drop at s))
 
 -- a message with a declaration, behind `<?`

@@ -5,19 +5,13 @@ ghost use Rattle.model.specs.Declarations.{version_p, encoding_p, yes_no_p, decl
 ghost use Rattle.scan.specs.Pieces.{Got};
 ghost use Rattle.reader.specs.Declaration.{pairs_p, GotOpen, GotSetting, GotBehindStandalone, GotStandaloneOrEnd, GotBehindEncoding, GotBehindVersion};
 
-use scan::Step;
+use scan::{Step, Stop};
 
 /// Whether b is x or y.
 pub fn is_either(x: u8, y: u8, b: u8) -> bool
     ensures { result ≡ either x y b }
 {
-    if b == x {
-        return true;
-    }
-    if b == y {
-        return true;
-    }
-    false
+    x == b || y == b
 }
 
 /// As many bytes as a and c have, each as in a or as in c.
@@ -25,18 +19,15 @@ pub fn folded(s: &[u8], at: usize, a: &[u8], c: &[u8]) -> Step
     requires { (at ≤ length s.now) × (length a.now ≡ length c.now) }
     ensures { Got 0 s.now at result (pairs_p a.now c.now (drop at s.now)) }
 {
-    let mut k = 0;
-    while k < a.len() {
+    for k in 0..a.len() {
         if s.len() - at <= k {
-            return Step::Open;
+            return Err(Stop::Open);
         }
-        if is_either(a[k], c[k], s[at + k]) {
-            k += 1;
-        } else {
-            return Step::Bad(at + k);
+        if !is_either(a[k], c[k], s[at + k]) {
+            return Err(Stop::Bad(at + k));
         }
     }
-    Step::Done(at + k)
+    Ok(at + a.len())
 }
 
 /// `yes` or `no`.
@@ -45,7 +36,7 @@ pub fn yes_no(s: &[u8], at: usize) -> Step
     ensures { Got 0 s.now at result (yes_no_p (drop at s.now)) }
 {
     if s.len() <= at {
-        return Step::Open;
+        return Err(Stop::Open);
     }
     if s[at] == b'y' {
         return scan::literal(s, at, b"yes");
@@ -58,22 +49,13 @@ pub fn opening(s: &[u8], at: usize, name: &[u8]) -> Step
     requires { at ≤ length s.now }
     ensures { GotOpen name.now s.now at result }
 {
-    let r = scan::literal(s, at, name);
-    let Step::Done(a) = r else {
-        return r;
-    };
-    let r = scan::glued(s, a, b'=');
-    let Step::Done(m) = r else {
-        return r;
-    };
-    let r = scan::glue(s, m);
-    let Step::Done(e) = r else {
-        return r;
-    };
+    let a = scan::literal(s, at, name)?;
+    let m = scan::glued(s, a, b'=')?;
+    let e = scan::glue(s, m)?;
     if is_either(b'"', b'\'', s[e]) {
-        return Step::Done(e + 1);
+        return Ok(e + 1);
     }
-    Step::Bad(e)
+    Err(Stop::Bad(e))
 }
 
 /// A name, `=`, and a quoted word, each byte of it as in a or as in c.
@@ -81,15 +63,9 @@ pub fn setting_of(s: &[u8], at: usize, name: &[u8], a: &[u8], c: &[u8]) -> Step
     requires { (at ≤ length s.now) × (length a.now ≡ length c.now) }
     ensures { GotSetting name.now (pairs_p a.now c.now) s.now at result }
 {
-    let r = opening(s, at, name);
-    let Step::Done(i) = r else {
-        return r;
-    };
+    let i = opening(s, at, name)?;
     let q = s[i - 1];
-    let r = folded(s, i, a, c);
-    let Step::Done(e) = r else {
-        return r;
-    };
+    let e = folded(s, i, a, c)?;
     scan::byte(s, e, q)
 }
 
@@ -114,15 +90,9 @@ pub fn standalone(s: &[u8], at: usize) -> Step
     requires { at ≤ length s.now }
     ensures { GotSetting (text "standalone") yes_no_p s.now at result }
 {
-    let r = opening(s, at, b"standalone");
-    let Step::Done(a) = r else {
-        return r;
-    };
+    let a = opening(s, at, b"standalone")?;
     let q = s[a - 1];
-    let r = yes_no(s, a);
-    let Step::Done(e) = r else {
-        return r;
-    };
+    let e = yes_no(s, a)?;
     scan::byte(s, e, q)
 }
 
@@ -131,10 +101,7 @@ pub fn behind_standalone(s: &[u8], at: usize) -> Step
     requires { at ≤ length s.now }
     ensures { GotBehindStandalone s.now at result }
 {
-    let r = scan::glue(s, at);
-    let Step::Done(a) = r else {
-        return r;
-    };
+    let a = scan::glue(s, at)?;
     scan::literal(s, a, b"?>")
 }
 
@@ -144,13 +111,10 @@ pub fn standalone_or_end(s: &[u8], at: usize) -> Step
     ensures { GotStandaloneOrEnd s.now at result }
 {
     if s.len() <= at {
-        return Step::Open;
+        return Err(Stop::Open);
     }
     if s[at] == b's' {
-        let r = standalone(s, at);
-        let Step::Done(a) = r else {
-            return r;
-        };
+        let a = standalone(s, at)?;
         return behind_standalone(s, a);
     }
     scan::literal(s, at, b"?>")
@@ -161,10 +125,7 @@ pub fn behind_encoding(s: &[u8], at: usize) -> Step
     requires { at ≤ length s.now }
     ensures { GotBehindEncoding s.now at result }
 {
-    let r = scan::glue(s, at);
-    let Step::Done(a) = r else {
-        return r;
-    };
+    let a = scan::glue(s, at)?;
     if a == at {
         return scan::literal(s, a, b"?>");
     }
@@ -176,18 +137,12 @@ pub fn behind_version(s: &[u8], at: usize) -> Step
     requires { at ≤ length s.now }
     ensures { GotBehindVersion s.now at result }
 {
-    let r = scan::glue(s, at);
-    let Step::Done(a) = r else {
-        return r;
-    };
+    let a = scan::glue(s, at)?;
     if a == at {
         return scan::literal(s, a, b"?>");
     }
     if s[a] == b'e' {
-        let r = encoding(s, a);
-        let Step::Done(e) = r else {
-            return r;
-        };
+        let e = encoding(s, a)?;
         return behind_encoding(s, e);
     }
     standalone_or_end(s, a)
@@ -198,20 +153,11 @@ pub fn declaration(s: &[u8], at: usize) -> Step
     requires { at ≤ length s.now }
     ensures { Got 1 s.now at result (declaration_p (drop at s.now)) }
 {
-    let r = scan::literal(s, at, b"xml");
-    let Step::Done(a) = r else {
-        return r;
-    };
-    let r = scan::glue(s, a);
-    let Step::Done(i) = r else {
-        return r;
-    };
+    let a = scan::literal(s, at, b"xml")?;
+    let i = scan::glue(s, a)?;
     if i == a {
-        return Step::Bad(i);
+        return Err(Stop::Bad(i));
     }
-    let r = version(s, i);
-    let Step::Done(e) = r else {
-        return r;
-    };
+    let e = version(s, i)?;
     behind_version(s, e)
 }

@@ -1,59 +1,38 @@
 // Elements and content, which call each other: content loops over siblings, so the calls nest no deeper than elements do.
 // Each call leaves fewer bytes than the one it is made from.
-ghost use Rattle.std.specs.Prelude.{◌-◌, ◌≤◌, length, take, drop};
+ghost use Rattle.std.specs.Prelude.{◌≤◌, length, drop};
 ghost use Rattle.model.specs.Elements.{elem_p, content_p};
 ghost use Rattle.scan.specs.Pieces.{Got, end_tag_p};
 ghost use Rattle.reader.specs.Elements.{GotStart};
 
-use scan::Step;
+use scan::{Step, Stop};
+use tags::attributes::Tag;
 
-/// Behind `<`: the end tag of the name that stands from `from` to `to`.
-pub fn end_tag(s: &[u8], at: usize, from: usize, to: usize) -> Step
-    requires { (at ≤ length s.now) × (from ≤ to) × (to ≤ length s.now) }
-    ensures { Got 1 s.now at result (end_tag_p (take (to - from) (drop from s.now)) (drop at s.now)) }
+/// Behind `<`: the end tag of this name.
+pub fn end_tag(s: &[u8], at: usize, name: &[u8]) -> Step
+    requires { at ≤ length s.now }
+    ensures { Got 1 s.now at result (end_tag_p name.now (drop at s.now)) }
 {
-    let r = scan::byte(s, at, b'/');
-    let Step::Done(a) = r else {
-        return r;
-    };
-    let r = scan::literal(s, a, &s[from..to]);
-    let Step::Done(a) = r else {
-        return r;
-    };
-    scan::glued(s, a, b'>')
+    let i = scan::byte(s, at, b'/')?;
+    let j = scan::literal(s, i, name)?;
+    scan::glued(s, j, b'>')
 }
 
-/// A start tag or an empty tag: where its name ends, whether it is empty, how many attributes it has, where it ends.
+/// A start tag or an empty tag: where its name ends, and what stands behind that.
 #[derive(Clone, Copy)]
 pub struct Start {
     pub to: usize,
-    pub empty: bool,
-    pub count: usize,
-    pub end: Step,
+    pub tag: Tag,
 }
 
 /// A start tag or an empty tag, behind its `<`. A table that is lent for its attributes has their places.
-pub fn start_tag(s: &[u8], at: usize, table: &mut [u16]) -> Start
+pub fn start_tag(s: &[u8], at: usize, table: &mut [u16]) -> Result<Start, Stop>
     requires { at ≤ length s.now }
     ensures { GotStart s.now at table.old table.new result }
 {
-    let r = scan::name(s, at);
-    let Step::Done(to) = r else {
-        return Start {
-            to: 0,
-            empty: false,
-            count: 0,
-            end: r,
-        };
-    };
-    let t = tags::attributes::head(s, to, true, &mut *table);
-    let end = t.end;
-    Start {
-        to: to,
-        empty: t.empty,
-        count: t.count,
-        end: end,
-    }
+    let to = scan::name(s, at)?;
+    let tag = tags::attributes::head(s, to, true, &mut *table)?;
+    Ok(Start { to, tag })
 }
 
 /// An element, behind its `<`, in which `left` more may be open.
@@ -63,43 +42,31 @@ pub fn element(s: &[u8], at: usize, left: usize) -> Step
     ensures { Got 1 s.now at result (elem_p (content_p left) (drop at s.now)) }
 {
     let mut none = [0u16; 0];
-    let t = start_tag(s, at, &mut none);
-    let r = t.end;
-    let Step::Done(e) = r else {
-        return r;
-    };
-    if t.empty {
-        return r;
+    let t = start_tag(s, at, &mut none)?;
+    if t.tag.empty {
+        return Ok(t.tag.end);
     }
-    let to = t.to;
-    content(s, e, left, at, to)
+    content(s, t.tag.end, left, &s[at..t.to])
 }
 
-/// Elements with filler around them, and the end tag of the name that stands from `from` to `to`.
+/// Elements with filler around them, and the end tag of this name.
 #[cycle(content_element)]
-pub fn content(s: &[u8], at: usize, left: usize, from: usize, to: usize) -> Step
-    requires { (at ≤ length s.now) × (from ≤ to) × (to ≤ length s.now) }
-    ensures { Got 1 s.now at result (content_p left (take (to - from) (drop from s.now)) (drop at s.now)) }
+pub fn content(s: &[u8], at: usize, left: usize, name: &[u8]) -> Step
+    requires { at ≤ length s.now }
+    ensures { Got 1 s.now at result (content_p left name.now (drop at s.now)) }
 {
     let mut i = at;
     loop {
-        let r = fillers::filler_lt(s, i, true);
-        let Step::Done(j) = r else {
-            return r;
-        };
+        let j = fillers::filler_lt(s, i, true)?;
         if s.len() <= j {
-            return Step::Open;
+            return Err(Stop::Open);
         }
         if s[j] == b'/' {
-            return end_tag(s, j, from, to);
+            return end_tag(s, j, name);
         }
         if left == 0 {
-            return Step::Bad(j);
+            return Err(Stop::Bad(j));
         }
-        let r = element(s, j, left - 1);
-        let Step::Done(e) = r else {
-            return r;
-        };
-        i = e;
+        i = element(s, j, left - 1)?;
     }
 }

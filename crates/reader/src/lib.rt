@@ -13,7 +13,7 @@ mod message;
 
 use answer::{Answer, Child, Outline};
 use grammar::Limits;
-use scan::Step;
+use scan::Stop;
 
 /// At most as many bytes as a message may have.
 fn window(left: usize) -> usize
@@ -46,26 +46,24 @@ pub fn outline(s: &[u8], table: &mut [u16]) -> Outline
     let start = scan::skip_glue(s, 0);
     let n = window(s.len() - start);
     let end = start + n;
-    let m = message::message(&s[..end], start, &mut *table);
-    let r = m.end;
-    match r {
-        Step::Done(e) => Outline {
+    match message::message(&s[..end], start, &mut *table) {
+        Ok(m) => Outline {
             answer: Answer::Ends {
                 start: start,
-                end: e,
+                end: m.end,
             },
             from: m.from,
             to: m.to,
             count: m.count,
             inside: m.inside,
         },
-        Step::Open => {
+        Err(Stop::Open) => {
             if n < Limits::MESSAGE {
                 return unread(Answer::More { start: start });
             }
             unread(Answer::TooLong { start: start })
         }
-        Step::Bad(p) => unread(Answer::Malformed {
+        Err(Stop::Bad(p)) => unread(Answer::Malformed {
             start: start,
             place: p,
         }),
@@ -103,14 +101,11 @@ pub fn child(s: &[u8], at: usize) -> Child
     if s.len() < at {
         return no_child();
     }
-    let r = fillers::filler_lt(s, at, true);
-    let Step::Done(j) = r else {
+    let Ok(j) = fillers::filler_lt(s, at, true) else {
         return no_child();
     };
     let mut none = [0u16; 0];
-    let c = message::child_at(s, j, Limits::DEPTH - 3, &mut none);
-    let r = c.end;
-    let Step::Done(e) = r else {
+    let Ok(c) = message::child_at(s, j, Limits::DEPTH - 3, &mut none) else {
         return no_child();
     };
     Child {
@@ -119,6 +114,6 @@ pub fn child(s: &[u8], at: usize) -> Child
         to: c.to,
         count: c.count,
         inside: c.inside,
-        next: e,
+        next: c.end,
     }
 }

@@ -6,10 +6,10 @@ use Prim.Native.Nat.{ℕ, zero, suc, ◌+◌, ◌-◌, ◌≤◌, ◌<◌}
 use native.Mathlib.Omega.{arith}
 use lib.ListN.{length, take, drop, get_or, length-take, length-drop}
 use native.Mathlib.Nat.{add-zero}
-use lib.Seq.{drop-cons, get_or-take, get_or-drop}
+use lib.Seq.{get_or-take, get_or-drop}
 use lib.Dec.{eqb, leb}
 use lib.Pointwise.{pointwise}
-use borrow.Author.Tests.{leb-true, leb-false, eq-eqb, ne_eqb, eqb-false, not-true}
+use borrow.Author.Tests.{leb-true, leb-false}
 use Rattle.model.specs.Tests.{and_left, and_right, and_false, same_true}
 use Rattle.grammar.specs.Bytes.{Bytes, every, same}
 use Rattle.std.specs.Prelude.{Option, Some, None}

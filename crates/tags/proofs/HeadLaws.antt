@@ -9,7 +9,7 @@ use lib.ListN.{length, length-append, take, drop, get_or, length-take, length-dr
 use lib.Seq.{drop-cons}
 use lib.Dec.{leb}
 use borrow.Author.Tests.{leb-true, le-leb}
-use Rattle.scan.specs.Pieces.{Got, GotTok, glue_tok, chained}
+use Rattle.scan.specs.Pieces.{GotTok, glue_tok, chained}
 use Rattle.scan.specs.Unfold.{then_and, and_and, glue_bind}
 use Rattle.scan.proofs.Chain.{then_done, stops, tok, pass}
 use Rattle.model.specs.Tests.{and_left, and_right}

@@ -1,5 +1,5 @@
 -- The promise of `head`: what stands in a tag behind its name, and where its attributes stand.
-use Rattle.std.specs.Prelude.{◌≡◌, List, ◌++◌, Bool, ℕ, ◌+◌, ◌*◌, ◌≤◌, ◌<◌, length, drop, Result, Ok, Err}
+use Rattle.std.specs.Prelude.{◌≡◌, List, ◌++◌, Bool, ℕ, ◌+◌, ◌*◌, ◌≤◌, length, drop, Result, Ok, Err}
 use Rattle.exact.specs.Exact.{done}
 use Rattle.grammar.specs.Bytes.{Bytes}
 use Rattle.grammar.specs.Limits.{ATTRIBUTES, MESSAGE}

@@ -9,9 +9,9 @@ use lib.ListN.{length, take, drop, get_or, drop_of_length-le}
 use native.Mathlib.Nat.{add-zero}
 use lib.Seq.{drop-cons}
 use borrow.Author.Tests.{eq-eqb, ne_eqb}
-use Rattle.scan.specs.Pieces.{Got, GotTok, byte_p, word_p, glue_tok, chained, glued_p}
+use Rattle.scan.specs.Pieces.{Got, GotTok, byte_p, word_p, glue_tok, chained, Step, glued_p}
 use Rattle.scan.specs.Unfold.{then_and, and_ext}
-use Rattle.scan.proofs.Chain.{then_done, then_more, then_bad, Fails, never, tok, pass, last, moved}
+use Rattle.scan.proofs.Chain.{then_done, then_more, then_bad, tok, pass, last, moved}
 use Rattle.model.specs.Declarations.{version_p, encoding_p, yes_no_p, mk_setting, setting_p, behind_standalone_p, standalone_or_end_p, behind_encoding_p, behind_version_p, mk_declaration, declaration_p}
 use Rattle.exact.specs.Exact.{Out, done, more, bad, Reader}
 use Rattle.exact.specs.Byte.{pick, lit_p}
@@ -20,18 +20,9 @@ use Rattle.grammar.specs.Value.{is_quote}
 use Rattle.grammar.specs.Declaration.{Setting, Optional, absent, present, Declaration}
 use Rattle.reader.specs.Declaration.{pairs_p, mk_opening, quote_p, open_p, OpenCase, GotOpen, GotSetting, GotBehindStandalone, GotStandaloneOrEnd, GotBehindEncoding, GotBehindVersion}
 use Rattle.reader.proofs.declaration.Chains.{lit_word, setting_bind, behind_standalone_bind, standalone_or_end_open, standalone_or_end_yes, standalone_or_end_no, behind_encoding_bind, encoding_or_end_p, behind_version_bind, encoding_or_end_yes, encoding_or_end_no, versioned_p, declaration_bind}
-use Rattle.scan.specs.declared.Step.{Step}
-use Rattle.scan.specs.declared.Step.TheVariants.{Done, Open, Bad}
-
--- one of two bytes
-pub either_left : (x y b : ℕ) → b ≡ x → true ≡ either x y b
-either_left x y b e = rw (eq-eqb x b (sym e))
-
-pub either_right : (x y b : ℕ) → (b ≡ x → ⊥) → b ≡ y → true ≡ either x y b
-either_right x y b n e = rw (ne_eqb x b (λ q. n (sym q)), eq-eqb y b (sym e))
-
-pub either_none : (x y b : ℕ) → (b ≡ x → ⊥) → (b ≡ y → ⊥) → false ≡ either x y b
-either_none x y b n m = rw (ne_eqb x b (λ q. n (sym q)), ne_eqb y b (λ q. m (sym q)))
+use Rattle.std.specs.Prelude.{Ok, Err}
+use Rattle.scan.specs.declared.Stop.{Stop}
+use Rattle.scan.specs.declared.Stop.TheVariants.{Open, Bad}
 
 -- k bytes of a folded word are read
 pub record Fold (s : Bytes) (at : ℕ) (a c : Bytes) (k : ℕ) : Type 0 where
@@ -56,22 +47,23 @@ pub fold_start : (s : Bytes) (at : ℕ) (a c : Bytes) → at ≤ length s → Fo
 fold_start s at a c h = record { upto = omega arith; room = omega arith; so_far = λ v. v; same = simp add-zero (and_done (pairs_p a c (drop at s))) }
 
 module _ (s : Bytes) (at : ℕ) (a c : Bytes) (even : length a ≡ length c) (k : ℕ) (w : Fold s at a c k) where
-  pub fold_done : length a ≤ k → Got 0 s at (Done (at + k)) (pairs_p a c (drop at s))
+  pub fold_done : length a ≤ k → Got 0 s at (Ok (at + length a)) (pairs_p a c (drop at s))
   unfolding pairs_p chained
-  fold_done h = record { says = (w.so_far [], omega arith, w.room, w.same ∙ rw (drop_of_length-le a h)) }
+  fold_done h = let x = w.upto in
+      subst (λ (n : ℕ). Got 0 s at (Ok (at + n)) (pairs_p a c (drop at s))) (omega arith) (record { says = (w.so_far [], omega arith, w.room, w.same ∙ rw (drop_of_length-le a h)) })
 
   module _ (lt : k < length a) where
     cons : pairs_p (drop k a) (drop k c) ≡ pairs_p (get_or a k 0 ∷ drop (suc k) a) (get_or c k 0 ∷ drop (suc k) c)
     cons = let lt' : k < length c = omega arith in rw (drop-cons a k 0 lt, drop-cons c k 0 lt')
 
-    pub fold_open : length s ≤ at + k → Got 0 s at Open (pairs_p a c (drop at s))
+    pub fold_open : length s ≤ at + k → Got 0 s at (Err Open) (pairs_p a c (drop at s))
     unfolding pairs_p chained
     fold_open h =
         let x : pairs_p (drop k a) (drop k c) (drop (at + k) s) ≡ more = ap (λ (p : Reader Bytes). p (drop (at + k) s)) cons ∙ rw (drop_of_length-le s h) in
         record { says = w.same ∙ then_more _ x }
 
     module _ (h : at + k < length s) where
-      pub fold-bad : either (get_or a k 0) (get_or c k 0) (get_or s (at + k) 0) ≡ false → Got 0 s at (Bad (at + k)) (pairs_p a c (drop at s))
+      pub fold-bad : either (get_or a k 0) (get_or c k 0) (get_or s (at + k) 0) ≡ false → Got 0 s at (Err (Bad (at + k))) (pairs_p a c (drop at s))
       unfolding pairs_p
       fold-bad e =
           let x : pairs_p (drop k a) (drop k c) (drop (at + k) s) ≡ bad (drop (at + k) s) = ap (λ (p : Reader Bytes). p (drop (at + k) s)) cons ∙ rw (drop-cons s (at + k) 0 h, e) in
@@ -92,7 +84,7 @@ module _ (s : Bytes) (at : ℕ) (a c : Bytes) (even : length a ≡ length c) (k 
 
 -- yes, no
 module _ (s : Bytes) (at : ℕ) where
-  pub yes_open : length s ≤ at → Got 0 s at Open (yes_no_p (drop at s))
+  pub yes_open : length s ≤ at → Got 0 s at (Err Open) (yes_no_p (drop at s))
   unfolding yes_no_p
   yes_open h = record { says = rw (drop_of_length-le s h) }
 
@@ -110,39 +102,34 @@ module _ (s : Bytes) (at : ℕ) where
         last g 0 at (omega arith) (omega arith) (λ _. (text "no")) (x ∙ lit_word (text "no") (text "no") (drop at s))
 
 -- a name, `=`, a quote
-of_fail : {name s : Bytes} {at : ℕ} (r : Step) → Fails r → Got 1 s at r (open_p name (drop at s)) → GotOpen name s at r
-of_fail (Done e) f g = never f
-of_fail Open f g = record { says = g.says }
-of_fail (Bad p) f g = record { says = g.says }
-
 module _ (name s : Bytes) (at : ℕ) where
-  pub opening_name_fails : {k : ℕ} {r : Step} → Fails r → Got k s at r (word_p name (drop at s)) → GotOpen name s at r
+  pub opening_name_fails : {k : ℕ} {x : Stop} → Got k s at (Err x) (word_p name (drop at s)) → GotOpen name s at (Err x)
   unfolding open_p
-  opening_name_fails {k} {r} f g = of_fail r f (pass f g 1 at (omega arith) _ refl)
+  opening_name_fails g = record { says = (pass g 1 at (omega arith) _ refl).says }
 
-  module _ {k : ℕ} (a : ℕ) (g₁ : Got k s at (Done a) (word_p name (drop at s))) where
-    pub opening_equals_fails : {r : Step} → Fails r → Got 1 s a r (glued_p 61 (drop a s)) → GotOpen name s at r
+  module _ {k : ℕ} (a : ℕ) (g₁ : Got k s at (Ok a) (word_p name (drop at s))) where
+    pub opening_equals_fails : {x : Stop} → Got 1 s a (Err x) (glued_p 61 (drop a s)) → GotOpen name s at (Err x)
     unfolding open_p
-    opening_equals_fails {r} f g = of_fail r f (pass f g 1 at (omega arith) _ (then_done _ g₁.says.3))
+    opening_equals_fails g = record { says = (pass g 1 at (omega arith) _ (then_done _ g₁.says.3)).says }
 
-    module _ (m : ℕ) (g₂ : Got 1 s a (Done m) (glued_p 61 (drop a s))) where
-      pub opening-glue-fails : {r : Step} → Fails r → GotTok 0 s m r (glue_tok (drop m s)) → GotOpen name s at r
+    module _ (m : ℕ) (g₂ : Got 1 s a (Ok m) (glued_p 61 (drop a s))) where
+      pub opening-glue-fails : {x : Stop} → GotTok 0 s m (Err x) (glue_tok (drop m s)) → GotOpen name s at (Err x)
       unfolding open_p
-      opening-glue-fails {r} f g = of_fail r f (pass f (tok g) 1 at (omega arith) _ (then_done _ g₁.says.3 ∙ then_done _ g₂.says.3))
+      opening-glue-fails g = record { says = (pass (tok g) 1 at (omega arith) _ (then_done _ g₁.says.3 ∙ then_done _ g₂.says.3)).says }
 
-      module _ (e : ℕ) (g₃ : GotTok 0 s m (Done e) (glue_tok (drop m s))) where
+      module _ (e : ℕ) (g₃ : GotTok 0 s m (Ok e) (glue_tok (drop m s))) where
         so : open_p name (drop at s) ≡ quote_p g₂.says.0 (take (e - m) (drop m s)) (drop e s)
         unfolding open_p
         so = then_done _ g₁.says.3 ∙ then_done _ g₂.says.3 ∙ then_done _ g₃.says.2
 
-        pub opening-quoted : either 34 39 (get_or s e 0) ≡ true → GotOpen name s at (Done (e + 1))
+        pub opening-quoted : either 34 39 (get_or s e 0) ≡ true → GotOpen name s at (Ok (e + 1))
         unfolding quote_p is_quote
         opening-quoted q =
             let z : e + 1 - 1 ≡ e = omega arith in
             let h : e < length s = g₃.says.1 in
             record { says = (mk_opening g₂.says.0 (take (e - m) (drop m s)) (get_or s e 0), rw z, omega arith, omega arith, so ∙ rw (add-one, drop-cons s e 0 h, q)) }
 
-        pub opening-unquoted : either 34 39 (get_or s e 0) ≡ false → GotOpen name s at (Bad e)
+        pub opening-unquoted : either 34 39 (get_or s e 0) ≡ false → GotOpen name s at (Err (Bad e))
         unfolding quote_p is_quote
         opening-unquoted q =
             let h : e < length s = g₃.says.1 in
@@ -150,25 +137,22 @@ module _ (name s : Bytes) (at : ℕ) where
 
 -- a quoted word
 pub record IsOpen (name s : Bytes) (at e : ℕ) : Type 0 where
-  pub says : OpenCase name s at (Done e)
+  pub says : OpenCase name s at (Ok e)
 
-pub known_open : {name s : Bytes} {at : ℕ} {r : Step} {e : ℕ} → r ≡ Done e → GotOpen name s at r → IsOpen name s at e
+pub known_open : {name s : Bytes} {at : ℕ} {r : Step} {e : ℕ} → r ≡ Ok e → GotOpen name s at r → IsOpen name s at e
 known_open {name} {s} {at} q g = record { says = subst (λ (r : Step). OpenCase name s at r) q g.says }
 
-open_fails : {name s : Bytes} {at : ℕ} (r : Step) → Fails r → GotOpen name s at r → Got 1 s at r (open_p name (drop at s))
-open_fails (Done e) f g = never f
-open_fails Open f g = record { says = g.says }
-open_fails (Bad p) f g = record { says = g.says }
-
 module _ (name : Bytes) (W : Reader Bytes) (s : Bytes) (at : ℕ) where
-  pub setting_opening_fails : {r : Step} → Fails r → GotOpen name s at r → GotSetting name W s at r
-  setting_opening_fails {r} f g = record { says = λ b. pass f (open_fails r f g) 1 at (omega arith) _ (setting_bind name W b (drop at s)) }
+  pub setting_opening_fails : {x : Stop} → GotOpen name s at (Err x) → GotSetting name W s at (Err x)
+  setting_opening_fails {x} g =
+      let o : Got 1 s at (Err x) (open_p name (drop at s)) = record { says = g.says } in
+      record { says = λ b. pass o 1 at (omega arith) _ (setting_bind name W b (drop at s)) }
 
   module _ (a : ℕ) (g₁ : IsOpen name s at a) where
-    pub setting_word_fails : {r : Step} → Fails r → Got 0 s a r (W (drop a s)) → GotSetting name W s at r
-    setting_word_fails f g = record { says = λ b. pass f g 1 at (omega arith) _ (setting_bind name W b (drop at s) ∙ then_done _ g₁.says.4) }
+    pub setting_word_fails : {x : Stop} → Got 0 s a (Err x) (W (drop a s)) → GotSetting name W s at (Err x)
+    setting_word_fails g = record { says = λ b. pass g 1 at (omega arith) _ (setting_bind name W b (drop at s) ∙ then_done _ g₁.says.4) }
 
-    pub setting_read : {e : ℕ} {r : Step} → Got 0 s a (Done e) (W (drop a s)) → Got 1 s e r (byte_p (get_or s (a - 1) 0) (drop e s)) → GotSetting name W s at r
+    pub setting_read : {e : ℕ} {r : Step} → Got 0 s a (Ok e) (W (drop a s)) → Got 1 s e r (byte_p (get_or s (a - 1) 0) (drop e s)) → GotSetting name W s at r
     setting_read {e} {r} g₂ g =
         let o = g₁.says.0 in
         let g' : Got 1 s e r (byte_p o.quote (drop e s)) = rw g₁.says.1 g in
@@ -194,13 +178,13 @@ no_part s at a h = let z : a - at ≡ 0 = omega arith in rw z
 
 -- the end of a declaration
 module _ (s : Bytes) (at : ℕ) where
-  pub behind_standalone_fails : {r : Step} → Fails r → GotTok 0 s at r (glue_tok (drop at s)) → GotBehindStandalone s at r
-  behind_standalone_fails f g = record { says = λ x. pass f (tok g) 1 at (omega arith) _ (behind_standalone_bind x (drop at s)) }
+  pub behind_standalone_fails : {x : Stop} → GotTok 0 s at (Err x) (glue_tok (drop at s)) → GotBehindStandalone s at (Err x)
+  behind_standalone_fails g = record { says = λ x. pass (tok g) 1 at (omega arith) _ (behind_standalone_bind x (drop at s)) }
 
-  pub behind_standalone_ends : {a : ℕ} {r : Step} → GotTok 0 s at (Done a) (glue_tok (drop at s)) → Got 2 s a r (word_p (text "?>") (drop a s)) → GotBehindStandalone s at r
+  pub behind_standalone_ends : {a : ℕ} {r : Step} → GotTok 0 s at (Ok a) (glue_tok (drop at s)) → Got 2 s a r (word_p (text "?>") (drop a s)) → GotBehindStandalone s at r
   behind_standalone_ends {a} g₁ g = record { says = λ x. last g 1 at (omega arith) (omega arith) (λ _. x (take (a - at) (drop at s))) (behind_standalone_bind x (drop at s) ∙ then_done _ g₁.says.2) }
 
-  pub standalone_or_end_stops : length s ≤ at → GotStandaloneOrEnd s at Open
+  pub standalone_or_end_stops : length s ≤ at → GotStandaloneOrEnd s at (Err Open)
   standalone_or_end_stops h = record { says = λ b x. record { says = ap (standalone_or_end_p b x) (drop_of_length-le s h) ∙ standalone_or_end_open b x } }
 
   module _ (h : at < length s) where
@@ -208,10 +192,10 @@ module _ (s : Bytes) (at : ℕ) where
       yes : (b : Bytes) (x : Optional → Bytes → Declaration) → standalone_or_end_p b x (drop at s) ≡ chained (setting_p (text "standalone") yes_no_p b (drop at s)) (λ p u. behind_standalone_p (x (present p)) u)
       yes b x = rw (drop-cons s at 0 h) (standalone_or_end_yes b x (get_or s at 0) (drop (suc at) s) (eq-eqb 115 (get_or s at 0) (sym e)))
 
-      pub standalone-or-end-fails : {r : Step} → Fails r → GotSetting (text "standalone") yes_no_p s at r → GotStandaloneOrEnd s at r
-      standalone-or-end-fails f g = record { says = λ b x. pass f (g.says b) 1 at (omega arith) _ (yes b x) }
+      pub standalone-or-end-fails : {x : Stop} → GotSetting (text "standalone") yes_no_p s at (Err x) → GotStandaloneOrEnd s at (Err x)
+      standalone-or-end-fails g = record { says = λ b x. pass (g.says b) 1 at (omega arith) _ (yes b x) }
 
-      pub standalone-or-end-there : {a : ℕ} {r : Step} → GotSetting (text "standalone") yes_no_p s at (Done a) → GotBehindStandalone s a r → GotStandaloneOrEnd s at r
+      pub standalone-or-end-there : {a : ℕ} {r : Step} → GotSetting (text "standalone") yes_no_p s at (Ok a) → GotBehindStandalone s a r → GotStandaloneOrEnd s at r
       standalone-or-end-there g₁ g = record { says = λ b x. let y = g₁.says b in moved (g.says (x (present y.says.0))) 1 at (omega arith) (omega arith) (yes b x ∙ then_done _ y.says.3) }
 
     pub standalone_or_end_ends : {r : Step} → (get_or s at 0 ≡ 115 → ⊥) → Got 2 s at r (word_p (text "?>") (drop at s)) → GotStandaloneOrEnd s at r
@@ -220,13 +204,13 @@ module _ (s : Bytes) (at : ℕ) where
           (let q : standalone_or_end_p b x (drop at s) ≡ chained (word_p (text "?>") (drop at s)) (λ _ u. done (x absent b) u) = rw (drop-cons s at 0 h) (standalone_or_end_no b x (get_or s at 0) (drop (suc at) s) (ne_eqb 115 (get_or s at 0) (λ q. n (sym q)))) in q);
     }
 
-  pub behind_encoding_fails : {r : Step} → Fails r → GotTok 0 s at r (glue_tok (drop at s)) → GotBehindEncoding s at r
-  behind_encoding_fails f g = record { says = λ x. pass f (tok g) 1 at (omega arith) _ (behind_encoding_bind x (drop at s)) }
+  pub behind_encoding_fails : {x : Stop} → GotTok 0 s at (Err x) (glue_tok (drop at s)) → GotBehindEncoding s at (Err x)
+  behind_encoding_fails g = record { says = λ x. pass (tok g) 1 at (omega arith) _ (behind_encoding_bind x (drop at s)) }
 
-  pub behind_version_fails : {r : Step} → Fails r → GotTok 0 s at r (glue_tok (drop at s)) → GotBehindVersion s at r
-  behind_version_fails f g = record { says = λ x. pass f (tok g) 1 at (omega arith) _ (behind_version_bind x (drop at s)) }
+  pub behind_version_fails : {x : Stop} → GotTok 0 s at (Err x) (glue_tok (drop at s)) → GotBehindVersion s at (Err x)
+  behind_version_fails g = record { says = λ x. pass (tok g) 1 at (omega arith) _ (behind_version_bind x (drop at s)) }
 
-  module _ (a : ℕ) (g₁ : GotTok 0 s at (Done a) (glue_tok (drop at s))) where
+  module _ (a : ℕ) (g₁ : GotTok 0 s at (Ok a) (glue_tok (drop at s))) where
     abbrev G : Bytes
     G = take (a - at) (drop at s)
 
@@ -257,10 +241,10 @@ module _ (s : Bytes) (at : ℕ) where
             let q : encoding_or_end_p G x (drop a s) ≡ chained (setting_p (text "encoding") encoding_p G (drop a s)) (λ p u. behind_encoding_p (x (present p)) u) = rw (drop-cons s a 0 h) (encoding_or_end_yes G x (get_or s a 0) (drop (suc a) s) (eq-eqb 101 (get_or s a 0) (sym e))) in
             into x ∙ q
 
-        pub behind-version-encoding-fails : {r : Step} → Fails r → GotSetting (text "encoding") encoding_p s a r → GotBehindVersion s at r
-        behind-version-encoding-fails f g = record { says = λ x. pass f (g.says G) 1 at (omega arith) _ (enc x) }
+        pub behind-version-encoding-fails : {x : Stop} → GotSetting (text "encoding") encoding_p s a (Err x) → GotBehindVersion s at (Err x)
+        behind-version-encoding-fails g = record { says = λ x. pass (g.says G) 1 at (omega arith) _ (enc x) }
 
-        pub behind-version-encoding-there : {i : ℕ} {r : Step} → GotSetting (text "encoding") encoding_p s a (Done i) → GotBehindEncoding s i r → GotBehindVersion s at r
+        pub behind-version-encoding-there : {i : ℕ} {r : Step} → GotSetting (text "encoding") encoding_p s a (Ok i) → GotBehindEncoding s i r → GotBehindVersion s at r
         behind-version-encoding-there g₂ g = let y = g₂.says G in record { says = λ x. moved (g.says (x (present y.says.0))) 1 at (omega arith) (omega arith) (enc x ∙ then_done _ y.says.3) }
 
       pub behind-version-goes-on : {r : Step} → (get_or s a 0 ≡ 101 → ⊥) → GotStandaloneOrEnd s a r → GotBehindVersion s at r
@@ -272,26 +256,26 @@ module _ (s : Bytes) (at : ℕ) where
           }
 
 -- an answer that is known
-pub known_setting : {name : Bytes} {W : Reader Bytes} {s : Bytes} {at : ℕ} {r : Step} {e : ℕ} → r ≡ Done e → GotSetting name W s at r → GotSetting name W s at (Done e)
+pub known_setting : {name : Bytes} {W : Reader Bytes} {s : Bytes} {at : ℕ} {r : Step} {e : ℕ} → r ≡ Ok e → GotSetting name W s at r → GotSetting name W s at (Ok e)
 known_setting {name} {W} {s} {at} q g = subst (λ (r : Step). GotSetting name W s at r) q g
 
 -- the declaration
 module _ (s : Bytes) (at : ℕ) where
-  pub declaration_name_fails : {r : Step} → Fails r → Got 3 s at r (word_p (text "xml") (drop at s)) → Got 1 s at r (declaration_p (drop at s))
-  declaration_name_fails f g = pass f g 1 at (omega arith) _ (declaration_bind (drop at s))
+  pub declaration_name_fails : {x : Stop} → Got 3 s at (Err x) (word_p (text "xml") (drop at s)) → Got 1 s at (Err x) (declaration_p (drop at s))
+  declaration_name_fails g = pass g 1 at (omega arith) _ (declaration_bind (drop at s))
 
-  module _ (a : ℕ) (g₁ : Got 3 s at (Done a) (word_p (text "xml") (drop at s))) where
-    pub declaration_glue_fails : {r : Step} → Fails r → GotTok 0 s a r (glue_tok (drop a s)) → Got 1 s at r (declaration_p (drop at s))
-    declaration_glue_fails f g = pass f (tok g) 1 at (omega arith) _ (declaration_bind (drop at s) ∙ then_done _ g₁.says.3)
+  module _ (a : ℕ) (g₁ : Got 3 s at (Ok a) (word_p (text "xml") (drop at s))) where
+    pub declaration_glue_fails : {x : Stop} → GotTok 0 s a (Err x) (glue_tok (drop a s)) → Got 1 s at (Err x) (declaration_p (drop at s))
+    declaration_glue_fails g = pass (tok g) 1 at (omega arith) _ (declaration_bind (drop at s) ∙ then_done _ g₁.says.3)
 
-    module _ (i : ℕ) (g₂ : GotTok 0 s a (Done i) (glue_tok (drop a s))) where
+    module _ (i : ℕ) (g₂ : GotTok 0 s a (Ok i) (glue_tok (drop a s))) where
       abbrev B : Bytes
       B = take (i - a) (drop a s)
 
       behind : declaration_p (drop at s) ≡ pick (non_empty B) (versioned_p B (drop i s)) (bad (drop i s))
       behind = declaration_bind (drop at s) ∙ then_done _ g₁.says.3 ∙ then_done _ g₂.says.2
 
-      pub declaration-unspaced : i ≡ a → Got 1 s at (Bad i) (declaration_p (drop at s))
+      pub declaration-unspaced : i ≡ a → Got 1 s at (Err (Bad i)) (declaration_p (drop at s))
       declaration-unspaced e = let z = no_part s a i e in record { says = (omega arith, g₂.says.1, behind ∙ rw z) }
 
       module _ (ne : i ≡ a → ⊥) where
@@ -299,8 +283,8 @@ module _ (s : Bytes) (at : ℕ) where
         unfolding versioned_p
         on = let l = g₂.says.0 in let z : non_empty B ≡ true = some_part s a i (omega arith) g₂.says.1 in behind ∙ rw z
 
-        pub declaration-version-fails : {r : Step} → Fails r → GotSetting (text "version") version_p s i r → Got 1 s at r (declaration_p (drop at s))
-        declaration-version-fails f g = pass f (g.says B) 1 at (omega arith) _ on
+        pub declaration-version-fails : {x : Stop} → GotSetting (text "version") version_p s i (Err x) → Got 1 s at (Err x) (declaration_p (drop at s))
+        declaration-version-fails g = pass (g.says B) 1 at (omega arith) _ on
 
-        pub declaration-read : {e : ℕ} {r : Step} → GotSetting (text "version") version_p s i (Done e) → GotBehindVersion s e r → Got 1 s at r (declaration_p (drop at s))
+        pub declaration-read : {e : ℕ} {r : Step} → GotSetting (text "version") version_p s i (Ok e) → GotBehindVersion s e r → Got 1 s at r (declaration_p (drop at s))
         declaration-read g₃ g = let y = g₃.says B in moved (g.says (mk_declaration y.says.0)) 1 at (omega arith) (omega arith) (on ∙ then_done _ y.says.3)

@@ -10,7 +10,7 @@ use native.Mathlib.Numerals.{add-one}
 use lib.ListN.{length, length-append, get_or, take, drop, length-take, length-drop, drop_of_length-le}
 use lib.Seq.{drop-cons, take_at}
 use borrow.Author.Tests.{eq-eqb, ne_eqb}
-use Rattle.exact.specs.Exact.{Out, done, Lang, Reader, Exact, sound}
+use Rattle.exact.specs.Exact.{Out, done, more, bad, Lang, Reader, Exact, sound}
 use Rattle.exact.specs.Chain.{ret_p, map_p, clash, if_p}
 use Rattle.exact.specs.Byte.{Lit, lit, lit_exact}
 use Rattle.grammar.specs.Bytes.{Bytes, text}
@@ -25,22 +25,23 @@ use Rattle.model.specs.Elements.{Tail, tag_of, body_p, elem_p, content_p}
 use Rattle.model.specs.Declarations.{declaration_p}
 use Rattle.model.proofs.Declarations.{declaration_exact}
 use Rattle.model.specs.Messages.{mk_root, root_p, layout_p}
-use Rattle.scan.specs.Pieces.{Got, byte_p, word_p, chained, end_tag_p}
+use Rattle.scan.specs.Pieces.{Got, byte_p, word_p, chained, Step, end_tag_p}
 use Rattle.scan.specs.Unfold.{then_and}
-use Rattle.scan.proofs.Chain.{then_done, Fails, pass, last, moved, known}
-use Rattle.scan.specs.declared.Step.{Step}
-use Rattle.scan.specs.declared.Step.TheVariants.{Done, Open}
+use Rattle.scan.proofs.Chain.{then_done, stops, pass, last}
+use Rattle.std.specs.Prelude.{Result, Ok, Err}
+use Rattle.scan.specs.declared.Stop.{Stop}
+use Rattle.scan.specs.declared.Stop.TheVariants.{Open}
 use Rattle.tags.specs.Heads.{HeadRead, HeadSays}
 use Rattle.fillers.specs.Fills.{fill_tok, GotFiller}
 use Rattle.fillers.proofs.Fills.{fill_word}
-use Rattle.reader.specs.Elements.{GotStart}
+use Rattle.reader.specs.Elements.{StartRead, GotStart}
 use Rattle.grammar.specs.Places.{inner_of, child_of, tag_in, root_lead, lead, inside_from}
-use Rattle.reader.specs.Message.{with_end, itself, none, Drawn, GotInner, inside_p, GotInside, declared_p, declared_lead}
+use Rattle.reader.specs.Message.{itself, none, Drawn, InnerRead, InnerCase, GotInner, inside_p, GotInside, declared_p, declared_lead}
 use Rattle.tags.specs.declared.attributes.Tag.{Tag}
 use Rattle.reader.specs.declared.elements.Start.{Start}
 use Rattle.reader.specs.declared.message.Inner.{Inner}
 use Rattle.reader.proofs.elements.Chains.{elem_bind}
-use Rattle.reader.proofs.elements.Laws.{head_got, no_done, IsStart, element_fails, element_empty, element_full}
+use Rattle.reader.proofs.elements.Laws.{element_fails, element_empty, element_full}
 use Rattle.reader.proofs.message.Chains.{root_bind, after_p, layout_bind, after_open, after_declared, after_plain, both_done}
 
 -- what an exact reader read: its word stands there
@@ -52,7 +53,7 @@ spanned x s at e v h k q =
     (w, omega arith, ap (λ (y : Bytes). take (e - at) y) i ∙ take_at w (drop e s) (e - at) m, l)
 
 -- a word
-pub word_there : (w s : Bytes) (at e : ℕ) {k : ℕ} → Got k s at (Done e) (word_p w (drop at s)) → (e ≡ at + length w) × (take (e - at) (drop at s) ≡ w)
+pub word_there : (w s : Bytes) (at e : ℕ) {k : ℕ} → Got k s at (Ok e) (word_p w (drop at s)) → (e ≡ at + length w) × (take (e - at) (drop at s) ≡ w)
 unfolding word_p
 word_there w s at e g =
     let h = g.says.1 in
@@ -62,7 +63,7 @@ word_there w s at e g =
     go : (u : Bytes) → e ≡ at + length u → take (e - at) (drop at s) ≡ u → Lit w 0 u g.says.0 → (e ≡ at + length w) × (take (e - at) (drop at s) ≡ w)
     go u i j (lit q z) = (rw (← q) i, j ∙ q)
 
-pub byte_there : (b : ℕ) (s : Bytes) (at e : ℕ) → Got 1 s at (Done e) (byte_p b (drop at s)) → e ≡ at + 1
+pub byte_there : (b : ℕ) (s : Bytes) (at e : ℕ) → Got 1 s at (Ok e) (byte_p b (drop at s)) → e ≡ at + 1
 unfolding byte_p
 byte_there b s at e g =
     let h = g.says.1 in
@@ -73,7 +74,7 @@ byte_there b s at e g =
     go u i (lit q z) = i ∙ ap (λ (y : Bytes). at + length y) q
 
 -- filler and `<`
-pub filler_there : (site : Site) (s : Bytes) (at e : ℕ) (g : Got 1 s at (Done e) (fill_tok site (drop at s))) → e ≡ at + length (spell_filler g.says.0) + 1
+pub filler_there : (site : Site) (s : Bytes) (at e : ℕ) (g : Got 1 s at (Ok e) (fill_tok site (drop at s))) → e ≡ at + length (spell_filler g.says.0) + 1
 filler_there site s at e g =
     let f = g.says.0 in
     let (w, good) = fill_word site (drop at s) f (drop e s) g.says.3 in
@@ -98,12 +99,19 @@ root_started s at e h l k q =
     go true y x = clash (sym (x.allowed y))
     go false y x = y
 
--- an answer that fails says nothing of a child
-pub inner_fails : {A : Type 0} (child : A → Element) (before : A → Bytes) (s : Bytes) (at : ℕ) (old new : List ℕ) {r : Inner} {x : Step} {o : Out A} → r.end ≡ x → Fails x → Got 1 s at x o → GotInner child before s at old new r o
-inner_fails child before s at old new {r} {x} {o} q f g = record {
-  got = subst (λ (y : Step). Got 1 s at y o) (sym q) g;
-  lines = λ v e i h. no_done f (sym q ∙ i);
-}
+-- an element that is known
+pub known_inner : {A : Type 0} {child : A → Element} {before : A → Bytes} {s : Bytes} {at : ℕ} {old new : List ℕ} {r : Result Inner Stop} {o : Out A} {c : Inner} → r ≡ Ok c → GotInner child before s at old new r o → InnerRead child before s at old new c o
+known_inner {child = child} {before = before} {s = s} {at = at} {old = old} {new = new} {o = o} q g = subst (λ (r : Result Inner Stop). InnerCase child before s at old new r o) q g.says
+
+itself_chained : {A : Type 0} (o : Out A) → o ≡ chained o (λ v u. done v u)
+unfolding chained
+itself_chained (done v u) = refl
+itself_chained more = refl
+itself_chained (bad r) = refl
+
+-- what stopped says nothing of a child
+pub inner_fails : {A : Type 0} (child : A → Element) (before : A → Bytes) (s : Bytes) (at : ℕ) (old new : List ℕ) {x : Stop} {o : Out A} → Got 1 s at (Err x) o → GotInner child before s at old new (Err x) o
+inner_fails child before s at old new g = record { says = g.says }
 
 -- behind the head of a tag
 body_empty : (inner : Bytes → Reader Tail) (n : Bytes) (h : Head) (t : Bytes) → h.empty ≡ true → body_p inner n h t ≡ done (empty (tag_of n h)) t
@@ -113,103 +121,110 @@ body_full : (inner : Bytes → Reader Tail) (n : Bytes) (h : Head) (t : Bytes) �
 body_full inner n h t z = ap (λ (b : Bool). if_p b (ret_p (empty (tag_of n h))) (map_p (λ x. full (tag_of n h) x.content x.glue) (inner n)) t) z ∙ then_and (inner n t) _
 
 -- the child
-module _ (d : ℕ) (s : Bytes) (at : ℕ) (old new : List ℕ) (t : Start) where
-  pub child_fails : Fails t.end → GotStart s at old new t → GotInner itself none s at old new (record { end = t.end; from = at; to = t.to; count = t.count; inside = 0 }) (elem_p (content_p d) (drop at s))
-  child_fails f g = record { got = element_fails d s at old new t f g; lines = λ v e q h. no_done f q }
+module _ (d : ℕ) (s : Bytes) (at : ℕ) (old new : List ℕ) where
+  pub child_fails : {x : Stop} → GotStart s at old new (Err x) → GotInner itself none s at old new (Err x) (elem_p (content_p d) (drop at s))
+  child_fails g = record { says = (element_fails d s at old new g).says }
 
-  module _ (e : ℕ) (g : IsStart s at old new t e) where
+  module _ (t : Start) (g : StartRead s at old new t) where
     n : Bytes
     n = g.value.name
 
     h : Head
     h = g.value.head
 
-    body : elem_p (content_p d) (drop at s) ≡ body_p (content_p d) n h (drop e s)
+    body : elem_p (content_p d) (drop at s) ≡ body_p (content_p d) n h (drop t.tag.end s)
     unfolding n h
-    body = elem_bind (content_p d) (drop at s) ∙ then_done _ g.says
+    body = elem_bind (content_p d) (drop at s) ∙ then_done _ g.reads
 
     name_ends : t.to ≡ at + 0 + length n
     unfolding n
     name_ends =
-        let l = g.lines in
-        let m : length g.value.name ≡ t.to - at = ap length l.name ∙ rw (length-take, length-drop) (let a = l.from in let b = l.upto in omega arith) in
-        let a = l.from in omega arith
+        let m : length g.value.name ≡ t.to - at = ap length g.name ∙ rw (length-take, length-drop) (let a = g.from in let b = g.upto in omega arith) in
+        let a = g.from in omega arith
 
-    lines_of : (x : Element) (i : ℕ) → tag_in x ≡ tag_of n h → i ≡ inside_from t.to x → Drawn s (at + 0) x at t.to t.count i old new
+    lines_of : (x : Element) (i : ℕ) → tag_in x ≡ tag_of n h → i ≡ inside_from t.to x → Drawn s (at + 0) x at t.to t.tag.count i old new
     unfolding n h
     lines_of x i q z =
-        let l = g.lines in
         let e = name_ends in
-        record { lines = record { starts = omega arith; ends = rw q e; counts = rw q l.count; behind = z }; table = rw q l.table }
+        record { lines = record { starts = omega arith; ends = rw q e; counts = rw q g.count; behind = z }; table = rw q g.table }
 
-    pub child_empty : t.empty ≡ true → GotInner itself none s at old new (record { end = Done e; from = at; to = t.to; count = t.count; inside = 0 }) (elem_p (content_p d) (drop at s))
+    pub child_empty : t.tag.empty ≡ true → GotInner itself none s at old new (Ok (record { from = at; to = t.to; count = t.tag.count; inside = 0; end = t.tag.end })) (elem_p (content_p d) (drop at s))
     unfolding n h
-    child_empty z = record { got = element_empty d s at old new t e g z; lines = λ v e' q i. says v e' i }
-      where
-        so : elem_p (content_p d) (drop at s) ≡ done (empty (tag_of n h)) (drop e s)
-        so = body ∙ body_empty (content_p d) n h (drop e s) (sym g.lines.empty ∙ z)
+    child_empty z = record {
+      says = record {
+        value = empty (tag_of n h);
+        far = (element_empty d s at old new t g z).says.1;
+        upto = g.room;
+        reads = body ∙ body_empty (content_p d) n h (drop t.tag.end s) (sym g.empty ∙ z);
+        drawn = lines_of (empty (tag_of n h)) 0 refl refl;
+      };
+    }
 
-        says : (v : Element) (e' : ℕ) → elem_p (content_p d) (drop at s) ≡ done v (drop e' s) → Drawn s (at + 0) v at t.to t.count 0 old new
-        says v e' i =
-            let j = so in
-            let y : empty (tag_of n h) ≡ v = cc in
-            subst (λ (x : Element). Drawn s (at + 0) x at t.to t.count 0 old new) y (lines_of (empty (tag_of n h)) 0 refl refl)
+    module _ (z : t.tag.empty ≡ false) where
+      no : h.empty ≡ false
+      unfolding h
+      no = sym g.empty ∙ z
 
-    pub child_full : t.end ≡ Done e → t.empty ≡ false → {r : Step} → Got 1 s e r (content_p d (take (t.to - at) (drop at s)) (drop e s))
-        → GotInner itself none s at old new (record { end = r; from = at; to = t.to; count = t.count; inside = e }) (elem_p (content_p d) (drop at s))
-    unfolding n h
-    child_full ends z {r} c = record { got = element_full d s at old new t e g z c; lines = λ v e' q i. says v e' i }
-      where
-        no : h.empty ≡ false
-        no = sym g.lines.empty ∙ z
+      pub child-content-fails : {x : Stop} → Got 1 s t.tag.end (Err x) (content_p d (take (t.to - at) (drop at s)) (drop t.tag.end s)) → GotInner itself none s at old new (Err x) (elem_p (content_p d) (drop at s))
+      child-content-fails c = record { says = (element_full d s at old new t g z c).says }
 
-        so : elem_p (content_p d) (drop at s) ≡ chained (content_p d n (drop e s)) (λ x u. done (full (tag_of n h) x.content x.glue) u)
-        so = body ∙ body_full (content_p d) n h (drop e s) no
+      so : elem_p (content_p d) (drop at s) ≡ chained (content_p d n (drop t.tag.end s)) (λ x u. done (full (tag_of n h) x.content x.glue) u)
+      so = body ∙ body_full (content_p d) n h (drop t.tag.end s) no
 
-        behind : e ≡ t.to + length (spell_attributes h.attributes ++ (h.trail ++ text ">"))
-        behind = let p = g.lines.head_at e ends in head_there true s t.to e h p.0 g.room p.1 no
+      behind : t.tag.end ≡ t.to + length (spell_attributes h.attributes ++ (h.trail ++ text ">"))
+      unfolding h
+      behind = head_there true s t.to t.tag.end h g.far g.room g.head no
 
-        says : (v : Element) (e' : ℕ) → elem_p (content_p d) (drop at s) ≡ done v (drop e' s) → Drawn s (at + 0) v at t.to t.count e old new
-        says v e' i =
-            let (x, u, j, k) = both_done (content_p d n (drop e s)) (λ x u. done (full (tag_of n h) x.content x.glue) u) (sym so ∙ i) in
-            let y : full (tag_of n h) x.content x.glue ≡ v = cc in
-            subst (λ (x : Element). Drawn s (at + 0) x at t.to t.count e old new) y (lines_of (full (tag_of n h) x.content x.glue) e refl behind)
+      pub child-full : {e : ℕ} → Got 1 s t.tag.end (Ok e) (content_p d (take (t.to - at) (drop at s)) (drop t.tag.end s))
+          → GotInner itself none s at old new (Ok (record { from = at; to = t.to; count = t.tag.count; inside = t.tag.end; end = e })) (elem_p (content_p d) (drop at s))
+      unfolding n h
+      child-full {e} c =
+          let c' : Got 1 s t.tag.end (Ok e) (content_p d n (drop t.tag.end s)) = subst (λ (y : Bytes). Got 1 s t.tag.end (Ok e) (content_p d y (drop t.tag.end s))) (sym g.name) c in
+          let x = c'.says.0 in
+          record {
+            says = record {
+              value = full (tag_of n h) x.content x.glue;
+              far = (element_full d s at old new t g z c).says.1;
+              upto = c.says.2;
+              reads = so ∙ then_done _ c'.says.3;
+              drawn = lines_of (full (tag_of n h) x.content x.glue) t.tag.end refl behind;
+            };
+          }
 
 -- the child, filler and the end tag
-module _ (n s : Bytes) (at : ℕ) (old new : List ℕ) (c r : Inner) where
-  pub inside_child_fails : r ≡ with_end c c.end → Fails c.end → GotInner itself none s at old new c (elem_p (content_p (DEPTH - 2)) (drop at s)) → GotInside n s at old new r
+module _ (n s : Bytes) (at : ℕ) (old new : List ℕ) where
+  pub inside_child_fails : {x : Stop} → GotInner itself none s at old new (Err x) (elem_p (content_p (DEPTH - 2)) (drop at s)) → GotInside n s at old new (Err x)
   unfolding inside_p
-  inside_child_fails q f g = record { says = λ h b. inner_fails inner_of none s at old new (ap (λ (x : Inner). x.end) q) f (pass f g.got 1 at (omega arith) _ refl) }
+  inside_child_fails {x} g = record { says = λ h b. record { says = stops s at (elem_p (content_p (DEPTH - 2)) (drop at s)) x g.says at (omega arith) _ refl } }
 
-  module _ (a : ℕ) (ca : c.end ≡ Done a) (g₁ : GotInner itself none s at old new c (elem_p (content_p (DEPTH - 2)) (drop at s))) where
-    pub inside_filler_fails : {x : Step} → r ≡ with_end c x → Fails x → GotFiller in_root s a x → GotInside n s at old new r
+  module _ (c : Inner) (g₁ : InnerRead itself none s at old new c (elem_p (content_p (DEPTH - 2)) (drop at s))) where
+    pub inside_filler_fails : {x : Stop} → GotFiller in_root s c.end (Err x) → GotInside n s at old new (Err x)
     unfolding inside_p
-    inside_filler_fails q f g =
-        let k = known ca g₁.got in
-        record { says = λ h b. inner_fails inner_of none s at old new (ap (λ (x : Inner). x.end) q) f (pass f g.says 1 at (let l = k.says.1 in omega arith) _ (then_done _ k.says.3)) }
+    inside_filler_fails g = record { says = λ h b. inner_fails inner_of none s at old new (pass g.says 1 at (let l = g₁.far in omega arith) _ (then_done _ g₁.reads)) }
 
-    pub inside_read : {x : Step} → r ≡ with_end c x → (i : ℕ) → Got 1 s a (Done i) (fill_tok in_root (drop a s)) → Got 1 s i x (end_tag_p n (drop i s)) → GotInside n s at old new r
-    unfolding inside_p
-    inside_read {x} q i g₂ g = record {
-      says = λ h b. record { got = subst (λ (y : Step). Got 1 s at y (inside_p n h b (drop at s))) (sym (ap (λ (x : Inner). x.end) q)) (all h b); lines = λ v e z y. says h b v e y };
-    }
-      where
-        el : Element
-        el = (known ca g₁.got).says.0
+    module _ (i : ℕ) (g₂ : Got 1 s c.end (Ok i) (fill_tok in_root (drop c.end s))) where
+      inside_so : (h : Head) (b : Filler) → inside_p n h b (drop at s) ≡ chained (end_tag_p n (drop i s)) (λ y z. done (mk_root h b g₁.value g₂.says.0 y) z)
+      unfolding inside_p
+      inside_so h b = then_done _ g₁.reads ∙ then_done _ g₂.says.3
 
-        so : (h : Head) (b : Filler) → inside_p n h b (drop at s) ≡ chained (end_tag_p n (drop i s)) (λ y z. done (mk_root h b el g₂.says.0 y) z)
-        so h b = then_done _ (known ca g₁.got).says.3 ∙ then_done _ g₂.says.3
+      inside_all : {r : Step} → Got 1 s i r (end_tag_p n (drop i s)) → (h : Head) (b : Filler) → Got 1 s at r (inside_p n h b (drop at s))
+      inside_all g h b = let l = g₁.far in let m = g₂.says.1 in last g 1 at (omega arith) (omega arith) (mk_root h b g₁.value g₂.says.0) (inside_so h b)
 
-        all : (h : Head) (b : Filler) → Got 1 s at x (inside_p n h b (drop at s))
-        all h b = let l = (known ca g₁.got).says.1 in let m = g₂.says.1 in last g 1 at (omega arith) (omega arith) (mk_root h b el g₂.says.0) (so h b)
+      pub inside-end-fails : {x : Stop} → Got 1 s i (Err x) (end_tag_p n (drop i s)) → GotInside n s at old new (Err x)
+      inside-end-fails g = record { says = λ h b. inner_fails inner_of none s at old new (inside_all g h b) }
 
-        says : (h : Head) (b : Filler) (v : Root) (e : ℕ) → inside_p n h b (drop at s) ≡ done v (drop e s) → Drawn s (at + 0) v.inner r.from r.to r.count r.inside old new
-        says h b v e y =
-            let (z, u, j, k) = both_done (end_tag_p n (drop i s)) (λ y z. done (mk_root h b el g₂.says.0 y) z) (sym (so h b) ∙ y) in
-            let w : mk_root h b el g₂.says.0 z ≡ v = cc in
-            let o : Drawn s (at + 0) el c.from c.to c.count c.inside old new = g₁.lines el a ca (known ca g₁.got).says.3 in
-            subst (λ (v : Root). Drawn s (at + 0) v.inner r.from r.to r.count r.inside old new) w
-            (subst (λ (y : Inner). Drawn s (at + 0) el y.from y.to y.count y.inside old new) (sym q) o)
+      pub inside-read : {e : ℕ} → Got 1 s i (Ok e) (end_tag_p n (drop i s)) → GotInside n s at old new (Ok (record { from = c.from; to = c.to; count = c.count; inside = c.inside; end = e }))
+      inside-read {e} g = record {
+        says = λ h b. record {
+          says = record {
+            value = mk_root h b g₁.value g₂.says.0 g.says.0;
+            far = let l = g₁.far in let m = g₂.says.1 in let k = g.says.1 in omega arith;
+            upto = g.says.2;
+            reads = inside_so h b ∙ then_done _ g.says.3;
+            drawn = g₁.drawn;
+          };
+        };
+      }
 
 -- the values that were read before the child are part of the root
 inside_made : (n : Bytes) (h : Head) (f : Filler) (t : Bytes) (v : Root) (u : Bytes) → inside_p n h f t ≡ done v u → (x : Element) × (f' : Filler) × (g : Bytes) × (mk_root h f x f' g ≡ v)
@@ -222,35 +237,35 @@ inside_made n h f t v u q =
 
 -- the root
 module _ (s : Bytes) (at : ℕ) where
-  pub root_name_fails : {x : Step} → Fails x → Got 6 s at x (word_p hermes (drop at s)) → Got 1 s at x (root_p (drop at s))
-  root_name_fails f g = pass f g 1 at (omega arith) _ (root_bind (drop at s))
+  pub root_name_fails : {x : Stop} → Got 6 s at (Err x) (word_p hermes (drop at s)) → Got 1 s at (Err x) (root_p (drop at s))
+  root_name_fails g = pass g 1 at (omega arith) _ (root_bind (drop at s))
 
-  module _ (a : ℕ) (g₁ : Got 6 s at (Done a) (word_p hermes (drop at s))) where
-    pub root_tag_fails : {o w : List ℕ} {t : Tag} → Fails t.end → HeadSays false s a o w t → Got 1 s at t.end (root_p (drop at s))
-    root_tag_fails f g = pass f (head_got g) 1 at (let l = g₁.says.1 in omega arith) _ (root_bind (drop at s) ∙ then_done _ g₁.says.3)
+  module _ (a : ℕ) (g₁ : Got 6 s at (Ok a) (word_p hermes (drop at s))) where
+    pub root_tag_fails : {o w : List ℕ} {x : Stop} → HeadSays false s a o w (Err x) → Got 1 s at (Err x) (root_p (drop at s))
+    root_tag_fails {x = x} g = record { says = stops s a (head_p false (drop a s)) x g.says at (let l = g₁.says.1 in omega arith) _ (root_bind (drop at s) ∙ then_done _ g₁.says.3) }
 
-    module _ {o w : List ℕ} {z : Bool} {n : ℕ} (e : ℕ) (g₂ : HeadRead false s a o w z n e) where
+    module _ {o w : List ℕ} (t : Tag) (g₂ : HeadRead false s a o w t) where
       hd : Head
       hd = g₂.head
 
-      pub root-filler-fails : {x : Step} → Fails x → GotFiller in_root s e x → Got 1 s at x (root_p (drop at s))
-      root-filler-fails f g = pass f g.says 1 at (let l = g₁.says.1 in let m = g₂.far in omega arith) _ (root_bind (drop at s) ∙ then_done _ g₁.says.3 ∙ then_done _ g₂.reads)
+      pub root-filler-fails : {x : Stop} → GotFiller in_root s t.end (Err x) → Got 1 s at (Err x) (root_p (drop at s))
+      root-filler-fails g = pass g.says 1 at (let l = g₁.says.1 in let m = g₂.far in omega arith) _ (root_bind (drop at s) ∙ then_done _ g₁.says.3 ∙ then_done _ g₂.reads)
 
-      module _ (i : ℕ) (g₃ : Got 1 s e (Done i) (fill_tok in_root (drop e s))) where
+      module _ (i : ℕ) (g₃ : Got 1 s t.end (Ok i) (fill_tok in_root (drop t.end s))) where
         fl : Filler
         fl = g₃.says.0
 
-        so : root_p (drop at s) ≡ inside_p hermes hd fl (drop i s)
+        root_so : root_p (drop at s) ≡ inside_p hermes hd fl (drop i s)
         unfolding hd fl
-        so = root_bind (drop at s) ∙ then_done _ g₁.says.3 ∙ then_done _ g₂.reads ∙ then_done _ g₃.says.3
+        root_so = root_bind (drop at s) ∙ then_done _ g₁.says.3 ∙ then_done _ g₂.reads ∙ then_done _ g₃.says.3
 
         place : (x : Element) (f' : Filler) (g : Bytes) → i + 0 ≡ at + length (root_lead (mk_root hd fl x f' g))
         unfolding hd fl
         place x f' g =
             let k = (word_there hermes s at a g₁).0 in
-            let y = root_started s a e hd g₂.far g₂.upto g₂.reads in
-            let l = head_there false s a e hd g₂.far g₂.upto g₂.reads y in
-            let m = filler_there in_root s e i g₃ in
+            let y = root_started s a t.end hd g₂.far g₂.upto g₂.reads in
+            let l = head_there false s a t.end hd g₂.far g₂.upto g₂.reads y in
+            let m = filler_there in_root s t.end i g₃ in
             omega (
               arith,
               length-append (spell_attributes hd.attributes) (hd.trail ++ text ">"),
@@ -260,30 +275,38 @@ module _ (s : Bytes) (at : ℕ) where
               length-append (spell_filler fl) (text "<"),
             )
 
-        pub root-read : {old new : List ℕ} {r : Inner} → GotInside (take (a - at) (drop at s)) s i old new r → GotInner inner_of root_lead s at old new r (root_p (drop at s))
-        root-read {old} {new} {r} g =
-            let g' : GotInside hermes s i old new r = subst (λ (y : Bytes). GotInside y s i old new r) (word_there hermes s at a g₁).1 g in
-            let q = g'.says hd fl in
-            record { got = moved q.got 1 at (let l = g₁.says.1 in let m = g₂.far in let k = g₃.says.1 in omega arith) (let l = g₁.says.1 in let m = g₂.far in let k = g₃.says.1 in omega arith) so; lines = says q }
+        root_further : at ≤ i
+        root_further = let l = g₁.says.1 in let m = g₂.far in let k = g₃.says.1 in omega arith
+
+        pub root-read : {old new : List ℕ} {r : Result Inner Stop} → GotInside hermes s i old new r → GotInner inner_of root_lead s at old new r (root_p (drop at s))
+        root-read {old} {new} {r} g = record { says = go r (g.says hd fl).says }
           where
-            says : GotInner inner_of none s i old new r (inside_p hermes hd fl (drop i s)) → (v : Root) (e : ℕ) → r.end ≡ Done e → root_p (drop at s) ≡ done v (drop e s) → Drawn s (at + length (root_lead v)) v.inner r.from r.to r.count r.inside old new
-            says q v e z y =
-                let j : inside_p hermes hd fl (drop i s) ≡ done v (drop e s) = sym so ∙ y in
-                let (x, f', b, k) = inside_made hermes hd fl (drop i s) v (drop e s) j in
-                let p : i + 0 ≡ at + length (root_lead v) = subst (λ (v : Root). i + 0 ≡ at + length (root_lead v)) k (place x f' b) in
-                subst (λ (m : ℕ). Drawn s m v.inner r.from r.to r.count r.inside old new) p (q.lines v e z j)
+            go : (r : Result Inner Stop) → InnerCase inner_of none s i old new r (inside_p hermes hd fl (drop i s)) → InnerCase inner_of root_lead s at old new r (root_p (drop at s))
+            go (Err x) q = stops s i (inside_p hermes hd fl (drop i s)) x q at root_further (λ v u. done v u) (root_so ∙ itself_chained (inside_p hermes hd fl (drop i s)))
+            go (Ok c) q =
+                let (x, f', b, k) = inside_made hermes hd fl (drop i s) q.value (drop c.end s) q.reads in
+                let p : i + 0 ≡ at + length (root_lead q.value) = subst (λ (v : Root). i + 0 ≡ at + length (root_lead v)) k (place x f' b) in
+                let l = root_further in
+                let m = q.far in
+                record {
+                  value = q.value;
+                  far = omega arith;
+                  upto = q.upto;
+                  reads = root_so ∙ q.reads;
+                  drawn = subst (λ (m : ℕ). Drawn s m q.value.inner c.from c.to c.count c.inside old new) p q.drawn;
+                }
 
   -- a declaration, filler and the root
-  pub declared_fails : {x : Step} → Fails x → Got 1 s at x (declaration_p (drop at s)) → Got 1 s at x (declared_p (drop at s))
+  pub declared_fails : {x : Stop} → Got 1 s at (Err x) (declaration_p (drop at s)) → Got 1 s at (Err x) (declared_p (drop at s))
   unfolding declared_p
-  declared_fails f g = pass f g 1 at (omega arith) _ refl
+  declared_fails g = pass g 1 at (omega arith) _ refl
 
-  module _ (a : ℕ) (g₁ : Got 1 s at (Done a) (declaration_p (drop at s))) where
-    pub declared_filler_fails : {x : Step} → Fails x → GotFiller in_root s a x → Got 1 s at x (declared_p (drop at s))
+  module _ (a : ℕ) (g₁ : Got 1 s at (Ok a) (declaration_p (drop at s))) where
+    pub declared_filler_fails : {x : Stop} → GotFiller in_root s a (Err x) → Got 1 s at (Err x) (declared_p (drop at s))
     unfolding declared_p
-    declared_filler_fails f g = pass f g.says 1 at (let l = g₁.says.1 in omega arith) _ (then_done _ g₁.says.3)
+    declared_filler_fails g = pass g.says 1 at (let l = g₁.says.1 in omega arith) _ (then_done _ g₁.says.3)
 
-    module _ (b : ℕ) (g₂ : Got 1 s a (Done b) (fill_tok in_root (drop a s))) where
+    module _ (b : ℕ) (g₂ : Got 1 s a (Ok b) (fill_tok in_root (drop a s))) where
       declared-place : (x : Root) → b + length (root_lead x) ≡ at + length (declared_lead (declared g₁.says.0 g₂.says.0 x))
       declared-place x =
           let l = g₁.says.1 in
@@ -294,20 +317,25 @@ module _ (s : Bytes) (at : ℕ) where
           let n : length (declared_lead (declared g₁.says.0 g₂.says.0 x)) ≡ length w + length y = ap length q ∙ length-append w y in
           omega (arith, length-append (spell_filler g₂.says.0) (code "<" ∷ root_lead x))
 
-      pub declared-read : {old new : List ℕ} {r : Inner} → GotInner inner_of root_lead s b old new r (root_p (drop b s)) → GotInner child_of declared_lead s at old new r (declared_p (drop at s))
+      pub declared-read : {old new : List ℕ} {r : Result Inner Stop} → GotInner inner_of root_lead s b old new r (root_p (drop b s)) → GotInner child_of declared_lead s at old new r (declared_p (drop at s))
       unfolding declared_p
-      declared-read {old} {new} {r} g = record { got = last g.got 1 at (let l = g₁.says.1 in let m = g₂.says.1 in omega arith) (let l = g₁.says.1 in let m = g₂.says.1 in omega arith) (declared g₁.says.0 g₂.says.0) so; lines = says }
+      declared-read {old} {new} {r} g = record { says = go r g.says }
         where
           so : declared_p (drop at s) ≡ chained (root_p (drop b s)) (λ x w. done (declared g₁.says.0 g₂.says.0 x) w)
           so = then_done _ g₁.says.3 ∙ then_done _ g₂.says.3
 
-          says : (v : Layout) (e : ℕ) → r.end ≡ Done e → declared_p (drop at s) ≡ done v (drop e s) → Drawn s (at + length (declared_lead v)) (child_of v) r.from r.to r.count r.inside old new
-          says v e z y =
-              let (x, u, j, k) = both_done (root_p (drop b s)) (λ x w. done (declared g₁.says.0 g₂.says.0 x) w) (sym so ∙ y) in
-              let p : declared g₁.says.0 g₂.says.0 x ≡ v = cc in
-              let q : root_p (drop b s) ≡ done x (drop e s) = cc in
-              subst (λ (v : Layout). Drawn s (at + length (declared_lead v)) (child_of v) r.from r.to r.count r.inside old new) p
-              (subst (λ (m : ℕ). Drawn s m x.inner r.from r.to r.count r.inside old new) (declared-place x) (g.lines x e z q))
+          further : at ≤ b
+          further = let l = g₁.says.1 in let m = g₂.says.1 in omega arith
+
+          go : (r : Result Inner Stop) → InnerCase inner_of root_lead s b old new r (root_p (drop b s)) → InnerCase child_of declared_lead s at old new r (declared_p (drop at s))
+          go (Err x) q = stops s b (root_p (drop b s)) x q at further (λ x w. done (declared g₁.says.0 g₂.says.0 x) w) so
+          go (Ok c) q = let l = further in let m = q.far in record {
+            value = declared g₁.says.0 g₂.says.0 q.value;
+            far = omega arith;
+            upto = q.upto;
+            reads = so ∙ then_done _ q.reads;
+            drawn = subst (λ (m : ℕ). Drawn s m q.value.inner c.from c.to c.count c.inside old new) (declared-place q.value) q.drawn;
+          }
 
 -- the message
 lead_two : (l : Layout) → 2 + length (declared_lead l) ≡ length (lead l)
@@ -315,22 +343,22 @@ lead_two (plain r) = omega arith
 lead_two (declared d f r) = omega arith
 
 module _ (s : Bytes) (at : ℕ) where
-  pub message_fails : {x : Step} → Fails x → Got 1 s at x (byte_p 60 (drop at s)) → Got 1 s at x (layout_p (drop at s))
-  message_fails f g = pass f g 1 at (omega arith) _ (layout_bind (drop at s))
+  pub message_fails : {x : Stop} → Got 1 s at (Err x) (byte_p 60 (drop at s)) → Got 1 s at (Err x) (layout_p (drop at s))
+  message_fails g = pass g 1 at (omega arith) _ (layout_bind (drop at s))
 
-  module _ (a : ℕ) (g₁ : Got 1 s at (Done a) (byte_p 60 (drop at s))) where
+  module _ (a : ℕ) (g₁ : Got 1 s at (Ok a) (byte_p 60 (drop at s))) where
     after : layout_p (drop at s) ≡ after_p (drop a s)
     after = layout_bind (drop at s) ∙ then_done _ g₁.says.3
 
-    pub message_open : length s ≤ a → Got 1 s at Open (layout_p (drop at s))
+    pub message_open : length s ≤ a → Got 1 s at (Err Open) (layout_p (drop at s))
     message_open h = record { says = after ∙ ap after_p (drop_of_length-le s h) ∙ after_open }
 
     module _ (h : a < length s) where
-      pub message-declared : {old new : List ℕ} {r : Inner} → get_or s a 0 ≡ 63 → GotInner child_of declared_lead s (a + 1) old new r (declared_p (drop (a + 1) s)) → GotInner child_of lead s at old new r (layout_p (drop at s))
-      message-declared {old} {new} {r} e g = record {
-        got = moved g.got 1 at (let l = g₁.says.1 in omega arith) (let l = g₁.says.1 in omega arith) so;
-        lines = λ v e z y. subst (λ (m : ℕ). Drawn s m (child_of v) r.from r.to r.count r.inside old new) (place v) (g.lines v e z (sym so ∙ y));
-      }
+      message_further : at ≤ a
+      message_further = let l = g₁.says.1 in omega arith
+
+      pub message-declared : {old new : List ℕ} {r : Result Inner Stop} → get_or s a 0 ≡ 63 → GotInner child_of declared_lead s (a + 1) old new r (declared_p (drop (a + 1) s)) → GotInner child_of lead s at old new r (layout_p (drop at s))
+      message-declared {old} {new} {r} e g = record { says = go r g.says }
         where
           so : layout_p (drop at s) ≡ declared_p (drop (a + 1) s)
           so = after ∙ rw (add-one, drop-cons s a 0 h) (after_declared (get_or s a 0) (drop (suc a) s) (eq-eqb 63 (get_or s a 0) (sym e)))
@@ -338,11 +366,18 @@ module _ (s : Bytes) (at : ℕ) where
           place : (v : Layout) → a + 1 + length (declared_lead v) ≡ at + length (lead v)
           place v = let i = byte_there 60 s at a g₁ in let j = lead_two v in omega arith
 
-      pub message-plain : {old new : List ℕ} {r : Inner} → (get_or s a 0 ≡ 63 → ⊥) → GotInner inner_of root_lead s a old new r (root_p (drop a s)) → GotInner child_of lead s at old new r (layout_p (drop at s))
-      message-plain {old} {new} {r} ne g = record {
-        got = last g.got 1 at (let l = g₁.says.1 in omega arith) (let l = g₁.says.1 in omega arith) plain so;
-        lines = says;
-      }
+          go : (r : Result Inner Stop) → InnerCase child_of declared_lead s (a + 1) old new r (declared_p (drop (a + 1) s)) → InnerCase child_of lead s at old new r (layout_p (drop at s))
+          go (Err x) q = stops s (a + 1) (declared_p (drop (a + 1) s)) x q at (let l = message_further in omega arith) (λ v u. done v u) (so ∙ itself_chained (declared_p (drop (a + 1) s)))
+          go (Ok c) q = let l = message_further in let m = q.far in record {
+            value = q.value;
+            far = omega arith;
+            upto = q.upto;
+            reads = so ∙ q.reads;
+            drawn = subst (λ (m : ℕ). Drawn s m (child_of q.value) c.from c.to c.count c.inside old new) (place q.value) q.drawn;
+          }
+
+      pub message-plain : {old new : List ℕ} {r : Result Inner Stop} → (get_or s a 0 ≡ 63 → ⊥) → GotInner inner_of root_lead s a old new r (root_p (drop a s)) → GotInner child_of lead s at old new r (layout_p (drop at s))
+      message-plain {old} {new} {r} ne g = record { says = go r g.says }
         where
           so : layout_p (drop at s) ≡ chained (root_p (drop a s)) (λ x w. done (plain x) w)
           so =
@@ -352,10 +387,12 @@ module _ (s : Bytes) (at : ℕ) where
           place : (x : Root) → a + length (root_lead x) ≡ at + length (lead (plain x))
           place x = let i = byte_there 60 s at a g₁ in omega arith
 
-          says : (v : Layout) (e : ℕ) → r.end ≡ Done e → layout_p (drop at s) ≡ done v (drop e s) → Drawn s (at + length (lead v)) (child_of v) r.from r.to r.count r.inside old new
-          says v e z y =
-              let (x, u, j, k) = both_done (root_p (drop a s)) (λ x w. done (plain x) w) (sym so ∙ y) in
-              let p : plain x ≡ v = cc in
-              let q : root_p (drop a s) ≡ done x (drop e s) = cc in
-              subst (λ (v : Layout). Drawn s (at + length (lead v)) (child_of v) r.from r.to r.count r.inside old new) p
-              (subst (λ (m : ℕ). Drawn s m x.inner r.from r.to r.count r.inside old new) (place x) (g.lines x e z q))
+          go : (r : Result Inner Stop) → InnerCase inner_of root_lead s a old new r (root_p (drop a s)) → InnerCase child_of lead s at old new r (layout_p (drop at s))
+          go (Err x) q = stops s a (root_p (drop a s)) x q at message_further (λ x w. done (plain x) w) so
+          go (Ok c) q = let l = message_further in let m = q.far in record {
+            value = plain q.value;
+            far = omega arith;
+            upto = q.upto;
+            reads = so ∙ then_done _ q.reads;
+            drawn = subst (λ (m : ℕ). Drawn s m q.value.inner c.from c.to c.count c.inside old new) (place q.value) q.drawn;
+          }

@@ -1,6 +1,6 @@
 -- `content` and `element` meet their contracts: the bytes left fall at each call, since `<` and a tag are read before it.
 -- The invariant of content's loop: the content at `at` goes on at i as its model does.
-use Rattle.std.proofs.Common.{◌-◌, length, take, drop}
+use Rattle.std.proofs.Common.{◌-◌, length}
 use Rattle.reader.proofs.elements.Laws.{Rest}
 use Rattle.reader.proofs.elements.+content_element.Given as goal
 
@@ -11,7 +11,7 @@ abbrev pub decreases-element : goal.decreases-element
 decreases-element l = length l.s.now - l.at
 
 abbrev pub invariant-content-loop-j : goal.invariant-content-loop-j
-invariant-content-loop-j l = Rest l.left (take (l.to - l.from) (drop l.from l.s)) l.s l.at l.i
+invariant-content-loop-j l = Rest l.left l.name l.s l.at l.i
 
 abbrev pub decreases-content-loop-j : goal.decreases-content-loop-j
 decreases-content-loop-j l = length l.s - l.i

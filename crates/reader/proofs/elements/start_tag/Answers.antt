@@ -1,15 +1,17 @@
 -- `start_tag` meets its contract: a name, then what `head` says.
 use native.Mathlib.Omega.{arith}
-use Rattle.scan.proofs.Chain.{known_tok}
-use Rattle.reader.proofs.elements.Laws.{start_unnamed, start_read}
+use Rattle.scan.proofs.Chain.{exits, known_tok}
+use Rattle.reader.proofs.elements.Laws.{start_unnamed, start_headless, start_read}
 use Rattle.reader.proofs.elements.start_tag.Goals as goal
 
--- `start_tag` meets its contract: a name, then what `head` says.
-pub returns-in_default : goal.returns-in_default
-returns-in_default c = start_unnamed _ _ _ c.in_default.not-Done c.name-r.ensures
+pub returns-in_err-to : goal.returns-in_err-to
+returns-in_err-to c = rw (exits c.from_residual.ensures.1) (start_unnamed _ _ _ c.in_err-to.ensures)
 
-pub head-t-requires : goal.head-t-requires
-head-t-requires c = let g = known_tok c.in-Done.is c.name-r.ensures in omega arith
+pub head-requires : goal.head-requires
+head-requires c = let g = known_tok c.in_ok-to.was c.name.ensures in omega arith
+
+pub returns-in_err-tag : goal.returns-in_err-tag
+returns-in_err-tag c = rw (exits c.from_residual-in_err-tag.ensures.1) (start_headless _ _ _ _ (known_tok c.in_ok-to.was c.name.ensures) _ c.in_err-tag.ensures)
 
 pub returns : goal.returns
-returns c = start_read _ _ _ _ (known_tok c.in-Done.is c.name-r.ensures) _ _ c.head-t.ensures
+returns c = start_read _ _ _ _ (known_tok c.in_ok-to.was c.name.ensures) _ c.in_ok-tag.was c.head.ensures

@@ -1,18 +1,21 @@
 -- `child_at` meets its contract: the tag into the table that is kept, the content with another.
 use native.Mathlib.Omega.{arith}
+use Rattle.scan.proofs.Chain.{exits, known}
 use Rattle.reader.proofs.elements.Laws.{known_start}
-use Rattle.reader.proofs.message.Laws.{child_fails, child_empty, child_full}
+use Rattle.reader.proofs.message.Laws.{child_fails, child_empty, child-content-fails, child-full}
 use Rattle.reader.proofs.message.child_at.Goals as goal
 
--- `child_at` meets its contract: the tag into the table that is kept, the content with another.
-pub returns-in_default : goal.returns-in_default
-returns-in_default c = child_fails _ _ _ _ _ _ c.in_default.not-Done c.start_tag-t.ensures
+pub returns-in_err-t : goal.returns-in_err-t
+returns-in_err-t c = rw (exits c.from_residual.ensures.1) (child_fails _ _ _ _ _ c.in_err-t.ensures)
 
 pub returns-then-t : goal.returns-then-t
-returns-then-t c = child_empty _ _ _ _ _ _ _ (known_start c.in-Done.is c.start_tag-t.ensures) c.if-t.true
+returns-then-t c = child_empty _ _ _ _ _ _ (known_start c.in_ok-t.was c.start_tag.ensures) c.if-t.true
 
-pub content-r-requires : goal.content-r-requires
-content-r-requires c = let g = known_start c.in-Done.is c.start_tag-t.ensures in let l = g.lines in (omega arith, omega arith, omega arith)
+pub content-requires : goal.content-requires
+content-requires c = let g = known_start c.in_ok-t.was c.start_tag.ensures in omega arith
+
+pub returns-in_err-end : goal.returns-in_err-end
+returns-in_err-end c = rw (exits c.from_residual-in_err-end.ensures.1) (child-content-fails _ _ _ _ _ _ (known_start c.in_ok-t.was c.start_tag.ensures) c.if-t.false c.in_err-end.ensures)
 
 pub returns : goal.returns
-returns c = child_full _ _ _ _ _ _ _ (known_start c.in-Done.is c.start_tag-t.ensures) c.in-Done.is c.if-t.false c.content-r.ensures
+returns c = child-full _ _ _ _ _ _ (known_start c.in_ok-t.was c.start_tag.ensures) c.if-t.false (known c.in_ok-end.was c.content.ensures)

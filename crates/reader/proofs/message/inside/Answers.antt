@@ -1,22 +1,24 @@
 -- `inside` meets its contract: the child, filler and the end tag, one law for each return.
 use native.Mathlib.Omega.{arith}
-use Rattle.scan.proofs.Chain.{known}
+use Rattle.scan.proofs.Chain.{exits, known}
 use Rattle.reader.proofs.elements.Laws.{known_filler}
-use Rattle.reader.proofs.message.Laws.{inside_child_fails, inside_filler_fails, inside_read}
+use Rattle.reader.proofs.message.Laws.{known_inner, inside_child_fails, inside_filler_fails, inside-end-fails, inside-read}
 use Rattle.reader.proofs.message.inside.Goals as goal
 
--- `inside` meets its contract: the child, filler and the end tag, one law for each return.
-pub returns-in_default : goal.returns-in_default
-returns-in_default c = inside_child_fails _ _ _ _ _ _ _ c.ended.ensures c.in_default.not-Done c.child_at-c.ensures
+pub returns-in_err-child : goal.returns-in_err-child
+returns-in_err-child c = rw (exits c.from_residual.ensures.1) (inside_child_fails _ _ _ _ _ c.in_err-child.ensures)
 
-pub filler_lt-r-requires : goal.filler_lt-r-requires
-filler_lt-r-requires c = let g = known c.in-Done.is c.child_at-c.ensures.got in omega arith
+pub filler_lt-requires : goal.filler_lt-requires
+filler_lt-requires c = (known_inner c.in_ok-child.was c.child_at.ensures).upto
 
-pub returns-in_default-r : goal.returns-in_default-r
-returns-in_default-r c = inside_filler_fails _ _ _ _ _ _ _ _ c.in-Done.is c.child_at-c.ensures c.ended-in_default-r.ensures c.in_default-r.not-Done c.filler_lt-r.ensures
+pub returns-in_err-i : goal.returns-in_err-i
+returns-in_err-i c = rw (exits c.from_residual-in_err-i.ensures.1) (inside_filler_fails _ _ _ _ _ _ (known_inner c.in_ok-child.was c.child_at.ensures) c.in_err-i.ensures)
 
-pub end_tag-r-requires : goal.end_tag-r-requires
-end_tag-r-requires c = let g = known_filler c.in-Done-r.is c.filler_lt-r.ensures in (omega arith, c.requires.1, c.requires.2)
+pub end_tag-requires : goal.end_tag-requires
+end_tag-requires c = let g = known_filler c.in_ok-i.was c.filler_lt.ensures in omega arith
+
+pub returns-in_err-end : goal.returns-in_err-end
+returns-in_err-end c = rw (exits c.from_residual-in_err-end.ensures.1) (inside-end-fails _ _ _ _ _ _ (known_inner c.in_ok-child.was c.child_at.ensures) _ (known_filler c.in_ok-i.was c.filler_lt.ensures) c.in_err-end.ensures)
 
 pub returns : goal.returns
-returns c = inside_read _ _ _ _ _ _ _ _ c.in-Done.is c.child_at-c.ensures c.ended-2.ensures _ (known_filler c.in-Done-r.is c.filler_lt-r.ensures) c.end_tag-r.ensures
+returns c = inside-read _ _ _ _ _ _ (known_inner c.in_ok-child.was c.child_at.ensures) _ (known_filler c.in_ok-i.was c.filler_lt.ensures) (known c.in_ok-end.was c.end_tag.ensures)
