@@ -57,7 +57,7 @@ ranged_out : (lo hi : ℕ) (m : Bool) (k : ℕ) → not m && within lo hi k ≡ 
 ranged_out lo hi m k e = ap (λ (b : Bool). int_of (when b (an_int k))) e
 
 module _ {raw : Bytes} (r : WholeRead) (lo hi : ℕ) (reads : IntReads raw r) where
-  pub int_unread : {q : Verdict} → r ≡ NoneRead → q ≡ int_of (refused 6) → Judges int_of (whole lo hi) raw q
+  pub int_unread : {q : Verdict} → r ≡ NotRead → q ≡ int_of (refused 6) → Judges int_of (whole lo hi) raw q
   unfolding judged paper
   int_unread e h = record { says = λ l x. h ∙ sym (ap (λ (z : Sized). int_of (ranged lo hi z)) (not_int _ (sym (ap paper e) ∙ as_read_lem x reads))) }
 
