@@ -9,7 +9,7 @@ use native.Mathlib.Omega.{arith}
 use lib.ListN.{length, take, drop}
 use lib.Dec.{eqb}
 use borrow.Author.Tests.{eq-eqb, ne_eqb}
-use Rattle.std.specs.Prelude.{Option, None, Some}
+use Rattle.std.specs.Prelude.{Option, None, Some, Err}
 use Rattle.refusals.specs.Numbers.{number_of}
 use Rattle.refusals.specs.declared.Refusal.{Refusal}
 use Rattle.refusals.specs.declared.Refusal.TheVariants.{Incomplete, Malformed, MessageTooLong, Missing, TextTooLong, BadValue, NoRoom, MayNotBeSent, ProtocolError}
@@ -17,9 +17,9 @@ use Rattle.grammar.specs.Bytes.{Bytes}
 use Rattle.grammar.specs.Tree.{tree, Forest}
 use Rattle.grammar.specs.Element.{read_element}
 use Rattle.grammar.specs.Message.{read_layout}
-use Rattle.reader.specs.Answer.{Outlined}
-use Rattle.reader.specs.declared.answer.Answer.TheVariants.{Ends, More, Malformed, TooLong}
-use Rattle.reader.specs.declared.answer.Outline.{Outline}
+use Rattle.reader.specs.Answer.{Sketches, Outlined}
+use Rattle.reader.specs.declared.answer.Unread.TheVariants.{More, Malformed, TooLong}
+use Rattle.reader.specs.declared.answer.Sketch.{Sketch}
 use Rattle.table.specs.Table.{Row, words, some_words, whole, guid, version, positive, features, rows_of}
 use Rattle.table.specs.Theorems.{rows_table}
 use Rattle.table.specs.Says.{child_of, children_of, said_of}
@@ -30,7 +30,7 @@ use Rattle.rows.proofs.CodingLaws.{next_row, no_row}
 use Rattle.reads.specs.Held.{Held, Found, pairs, place}
 use Rattle.reads.specs.Kept.{Verdict, Rowed, Sorted, Sorts}
 use Rattle.reads.specs.declared.features.Sort.{Sort}
-use Rattle.reads.proofs.OutlineLaws.{child, accepted, answers, accepted_held, accepted_holds}
+use Rattle.reads.proofs.OutlineLaws.{child, accepted_held, accepted_holds}
 use Rattle.reads.proofs.TableLaws.{Fed}
 use Rattle.reads.proofs.WholeLaws.{as_read_lem}
 use Rattle.decides.specs.Deciding.{value_in, ruled_by, first_refused, decided_by, undecided, Decides, ends, more, malformed, too_long}
@@ -112,22 +112,24 @@ module _ (s : Bytes) (base : ℕ) (table : List ℕ) (count : ℕ) (found : Opti
   rule_ends {i} sort e fed g h q = record { says = λ k m f z. q ∙ ap (λ (l : List Row). first_refused i l (place k) (tree m (pairs k) f)) (sym (no_row from n i h)) ∙ g.rules k m f (fed f z) ∙ ap (λ (l : List Row). first_refused 0 l (place k) (tree m (pairs k) f)) (sym e) }
 
 -- of the message that an outline describes
-module _ {s : Bytes} {old new : List ℕ} {o : Outline} (p : Outlined s old new o) where
-  pub decides_end : (start end : ℕ) {k : Sort} {x : Option Ruling} {r : Decision} → length old ≡ 128 → o.answer ≡ Ends start end → Sorts s o.from o.to o.inside k → Rules s o.to new o.count k x → r ≡ decided_by k.kind x → Decides s r
-  decides_end start end {k} {x} long e q t h =
-      let a = accepted p e in
-      ends start end (answers p e) a.layout a.laid
+module _ {s : Bytes} {old new : List ℕ} {o : Sketch} (p : Sketches s old new o) where
+  pub decides_end : {k : Sort} {x : Option Ruling} {r : Decision} → length old ≡ 128 → Sorts s o.child.from o.child.to o.child.inside k → Rules s o.child.to new o.child.count k x → r ≡ decided_by k.kind x → Decides s r
+  decides_end {k} {x} long q t h =
+      let a = p.accepted in
+      ends o.start o.end p.answers a.layout a.laid
       (h
-      ∙ ap (decided_by k.kind) (t.says (accepted_held a long) (take (o.to - o.from) (drop o.from s)) (children_of (read_element (child a))) (q.features (children_of (read_element (child a))) (accepted_holds a)))
-      ∙ ap (λ (k : ℕ). decided_by k (first_refused 0 (rows_of k) (place (accepted_held a long)) (tree (take (o.to - o.from) (drop o.from s)) (pairs (accepted_held a long)) (children_of (read_element (child a)))))) q.kind
+      ∙ ap (decided_by k.kind) (t.says (accepted_held a long) (take (o.child.to - o.child.from) (drop o.child.from s)) (children_of (read_element (child a))) (q.features (children_of (read_element (child a))) (accepted_holds a)))
+      ∙ ap (λ (k : ℕ). decided_by k (first_refused 0 (rows_of k) (place (accepted_held a long)) (tree (take (o.child.to - o.child.from) (drop o.child.from s)) (pairs (accepted_held a long)) (children_of (read_element (child a)))))) q.kind
       ∙ as_read_lem a long (λ k place t. decided_by k (first_refused 0 (rows_of k) place t))
-      ∙ ap (λ (rows : List Row). decided_by (said_of (read_layout a.layout)).kind (first_refused 0 rows (places_in start a.layout) (child_of (read_layout a.layout)))) (sym (rows_table (said_of (read_layout a.layout)).kind (child_of (read_layout a.layout)))))
+      ∙ ap (λ (rows : List Row). decided_by (said_of (read_layout a.layout)).kind (first_refused 0 rows (places_in o.start a.layout) (child_of (read_layout a.layout)))) (sym (rows_table (said_of (read_layout a.layout)).kind (child_of (read_layout a.layout)))))
 
-  pub decides_more : (start : ℕ) {r : Decision} → o.answer ≡ More start → r ≡ undecided 1 → Decides s r
-  decides_more start e h = more start (answers p e) h
+-- of an answer without a message
+module _ {s : Bytes} {old new : List ℕ} where
+  pub decides_more : {start : ℕ} {r : Decision} → Outlined s old new (Err (More start)) → r ≡ undecided 1 → Decides s r
+  decides_more {start} p h = more start p.says h
 
-  pub decides_malformed : (start place : ℕ) {r : Decision} → o.answer ≡ Malformed start place → r ≡ undecided 2 → Decides s r
-  decides_malformed start place e h = malformed start place (answers p e) h
+  pub decides_malformed : {start place : ℕ} {r : Decision} → Outlined s old new (Err (Malformed start place)) → r ≡ undecided 2 → Decides s r
+  decides_malformed {start} {place} p h = malformed start place p.says h
 
-  pub decides_too_long : (start : ℕ) {r : Decision} → o.answer ≡ TooLong start → r ≡ undecided 3 → Decides s r
-  decides_too_long start e h = too_long start (answers p e) h
+  pub decides_too_long : {start : ℕ} {r : Decision} → Outlined s old new (Err (TooLong start)) → r ≡ undecided 3 → Decides s r
+  decides_too_long {start} p h = too_long start p.says h

@@ -7,7 +7,7 @@ ghost use Rattle.rows.specs.Coding.{numbers as coding, names as letters, Sound};
 ghost use Rattle.decides.specs.Deciding.{undecided, decided_by, Decides};
 ghost use Rattle.decides.specs.Ruled.{StandsIn, RulesIn};
 
-use reader::answer::Answer;
+use reader::answer::Unread;
 use reads::attributes::Attributes;
 use reads::features::{Sort, sort_of};
 use reads::trying::try_row;
@@ -112,23 +112,22 @@ pub fn decided(s: &[u8]) -> Decision
     ensures { Decides s.now result }
 {
     let mut table = [0u16; PLACES];
-    let o = reader::outline(s, &mut table);
-    let a = o.answer;
-    match a {
-        Answer::Ends { start, end } => {
-            let sort = sort_of(s, o.from, o.to, o.inside);
+    match reader::outline(s, &mut table) {
+        Ok(o) => {
+            let child = o.child;
+            let sort = sort_of(s, child.from, child.to, child.inside);
             let attributes = Attributes {
                 message: s,
-                base: o.to,
+                base: child.to,
                 table: &table,
-                count: o.count,
+                count: child.count,
             };
             let numbers = NUMBERS;
             let names = NAMES;
             made(sort.kind, rule(&attributes, sort, &numbers, &names))
         }
-        Answer::More { start } => unread(Refusal::Incomplete),
-        Answer::Malformed { start, place } => unread(Refusal::Malformed),
-        Answer::TooLong { start } => unread(Refusal::MessageTooLong),
+        Err(Unread::More { start }) => unread(Refusal::Incomplete),
+        Err(Unread::Malformed { start, place }) => unread(Refusal::Malformed),
+        Err(Unread::TooLong { start }) => unread(Refusal::MessageTooLong),
     }
 }

@@ -14,7 +14,7 @@ use message::cells::NUMBERS;
 use message::{Found, Message};
 use promises::{Receipt, Received};
 use reads::check_outlined;
-use reads::features::sort_of;
+use reads::features::sort_outlined;
 use tags::attributes::PLACES;
 use value::Span;
 
@@ -144,9 +144,9 @@ fn found(s: &[u8], cells: &mut [u64]) -> Found
     ensures { ChecksInto s.now cells.new result }
 {
     let mut table = [0u16; PLACES];
-    let o = reader::outline(s, &mut table);
-    let k = sort_of(s, o.from, o.to, o.inside);
-    check_outlined(s, o, k, &table, cells)
+    let outline = reader::outline(s, &mut table);
+    let sort = sort_outlined(s, outline);
+    check_outlined(s, outline, sort, &table, cells)
 }
 
 /// Receives the message that stands first in s, behind glue: checks it, moves the lane, and writes the Notification of a refusal or the

@@ -20,14 +20,13 @@ use Rattle.model.proofs.Messages.{layout_exact}
 use Rattle.model.specs.Answers.{answer_at, Window}
 use Rattle.model.proofs.Answers.{answers, window_behind, from_window}
 use Rattle.scan.specs.Pieces.{Skipped}
-use Rattle.std.specs.Prelude.{Err}
+use Rattle.std.specs.Prelude.{Ok, Err}
 use Rattle.scan.specs.declared.Stop.TheVariants.{Open, Bad}
 use Rattle.grammar.specs.Places.{child_of, lead}
 use Rattle.reader.specs.Message.{InnerRead, GotInner}
-use Rattle.reader.specs.Answer.{AtMost, bare, Outlined}
-use Rattle.reader.specs.declared.message.Inner.{Inner}
-use Rattle.reader.specs.declared.answer.Answer.TheVariants.{Ends, More, Malformed, TooLong}
-use Rattle.reader.specs.declared.answer.Outline.{Outline}
+use Rattle.reader.specs.Answer.{AtMost, Outlined}
+use Rattle.reader.specs.declared.answer.Child.{Child}
+use Rattle.reader.specs.declared.answer.Unread.TheVariants.{More as Begun, Malformed as Dead, TooLong as Over}
 use Rattle.reader.proofs.message.Laws.{spanned}
 
 -- the model's outcome as an answer
@@ -102,44 +101,48 @@ module _ (s : Bytes) (start n : ℕ) (k : Skipped s 0 start) (m : AtMost (length
   the_answer = subst (λ (a : ℕ). Answers s (answer_at a w)) long_g (from_window glue_behind in_window (answer_at (length g) w) (answers (window_behind glue_behind in_window)))
 
   module _ (old new : List ℕ) where
-    pub outline_ends : (r : Inner) → InnerRead child_of lead part start old new r (layout_p w) → Outlined s old new (record { answer = Ends start r.end; from = r.from; to = r.to; count = r.count; inside = r.inside })
-    outline_ends r c = record { answers = subst (λ (a : PaperAnswer). Answers s a) there the_answer; rest = record { layout = c.value; laid = laid; lines = c.drawn.lines; table = λ h. c.drawn.table.noted (record { whole = h; short = fits }) } }
+    pub outline_ends : (r : Child) → InnerRead child_of lead part start old new r (layout_p w) → Outlined s old new (Ok (record { start = start; end = r.next; child = r.outline }))
+    outline_ends r c = record {
+      says = record {
+        answers = subst (λ (a : PaperAnswer). Answers s a) there the_answer;
+        accepted = record { layout = c.value; laid = laid; lines = c.drawn.lines; table = λ h. c.drawn.table.noted (record { whole = h; short = fits }) };
+      };
+    }
       where
-        fits : length part ≤ r.to + MESSAGE
+        fits : length part ≤ r.outline.to + MESSAGE
         fits = let a = long_part in let b = m.small in let d = c.drawn.lines.ends in omega arith
 
-        least : start + 1 ≤ r.end
+        least : start + 1 ≤ r.next
         least = c.far
 
-        room : r.end ≤ length part
+        room : r.next ≤ length part
         room = c.upto
 
-        size : start + (length w - length (drop r.end part)) ≡ r.end
-        size = omega (arith, long_w, long_part, length-drop r.end part, least, room)
+        size : start + (length w - length (drop r.next part)) ≡ r.next
+        size = omega (arith, long_w, long_part, length-drop r.next part, least, room)
 
-        there : answer_at start w ≡ ends_at start r.end
-        there = answer_done start w c.value (drop r.end part) c.reads (omega (arith, long_w, m.small)) ∙ ap (ends_at start) size
+        there : answer_at start w ≡ ends_at start r.next
+        there = answer_done start w c.value (drop r.next part) c.reads (omega (arith, long_w, m.small)) ∙ ap (ends_at start) size
 
-        laid : Laid (take (r.end - start) (drop start s)) c.value
+        laid : Laid (take (r.next - start) (drop start s)) c.value
         laid =
-            let (u, i, j, x) = spanned layout_exact part start r.end c.value (omega (arith, least)) room c.reads in
-            let y : take (r.end - start) (drop start s) ≡ u = sym (take-take (r.end - start) n (drop start s) (omega (arith, room, long_part))) ∙ ap (λ (y : Bytes). take (r.end - start) y) (sym window_is) ∙ j in
+            let (u, i, j, x) = spanned layout_exact part start r.next c.value (omega (arith, least)) room c.reads in
+            let y : take (r.next - start) (drop start s) ≡ u = sym (take-take (r.next - start) n (drop start s) (omega (arith, room, long_part))) ∙ ap (λ (y : Bytes). take (r.next - start) y) (sym window_is) ∙ j in
             subst (λ (y : Bytes). Laid y c.value) (sym y) x
 
-    module _ (o : Outline) where
-      pub outline_more : GotInner child_of lead part start old new (Err Open) (layout_p w) → o ≡ bare (More start) → n < MESSAGE → Outlined s old new o
-      outline_more c q h =
-          let there : answer_at start w ≡ more_from start = answer_more start w c.says (omega (arith, long_w)) in
-          rw q (record { answers = subst (λ (a : PaperAnswer). Answers s a) there the_answer; rest = (refl, refl, refl, refl) })
+    pub outline_more : GotInner child_of lead part start old new (Err Open) (layout_p w) → n < MESSAGE → Outlined s old new (Err (Begun start))
+    outline_more c h =
+        let there : answer_at start w ≡ more_from start = answer_more start w c.says (omega (arith, long_w)) in
+        record { says = subst (λ (a : PaperAnswer). Answers s a) there the_answer }
 
-      pub outline_long : GotInner child_of lead part start old new (Err Open) (layout_p w) → o ≡ bare (TooLong start) → MESSAGE ≤ n → Outlined s old new o
-      outline_long c q h =
-          let there : answer_at start w ≡ too_long_from start = answer_long start w c.says (omega (arith, long_w)) in
-          rw q (record { answers = subst (λ (a : PaperAnswer). Answers s a) there the_answer; rest = (refl, refl, refl, refl) })
+    pub outline_long : GotInner child_of lead part start old new (Err Open) (layout_p w) → MESSAGE ≤ n → Outlined s old new (Err (Over start))
+    outline_long c h =
+        let there : answer_at start w ≡ too_long_from start = answer_long start w c.says (omega (arith, long_w)) in
+        record { says = subst (λ (a : PaperAnswer). Answers s a) there the_answer }
 
-      pub outline_bad : {p : ℕ} → GotInner child_of lead part start old new (Err (Bad p)) (layout_p w) → o ≡ bare (Malformed start p) → Outlined s old new o
-      outline_bad {p} c q =
-          let y = c.says in
-          let size : start + (length w - length (drop p part)) ≡ p = omega (arith, long_w, long_part, length-drop p part) in
-          let there : answer_at start w ≡ malformed_at start p = answer_bad start w (drop p part) y.2 (omega (arith, long_w, long_part, length-drop p part, m.small)) ∙ ap (malformed_at start) size in
-          rw q (record { answers = subst (λ (a : PaperAnswer). Answers s a) there the_answer; rest = (refl, refl, refl, refl) })
+    pub outline_bad : {p : ℕ} → GotInner child_of lead part start old new (Err (Bad p)) (layout_p w) → Outlined s old new (Err (Dead start p))
+    outline_bad {p} c =
+        let y = c.says in
+        let size : start + (length w - length (drop p part)) ≡ p = omega (arith, long_w, long_part, length-drop p part) in
+        let there : answer_at start w ≡ malformed_at start p = answer_bad start w (drop p part) y.2 (omega (arith, long_w, long_part, length-drop p part, m.small)) ∙ ap (malformed_at start) size in
+        record { says = subst (λ (a : PaperAnswer). Answers s a) there the_answer }

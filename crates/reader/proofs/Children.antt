@@ -1,13 +1,11 @@
 -- The next child: filler and an element, by the exactness of their reader.
 use mathlib.Core.Path.{◌≡◌, refl, sym, subst, ap, ◌∙◌}
-use mathlib.Core.Bool.{true}
 use mathlib.Core.List.{List, [], ◌∷◌, ◌++◌, append_assoc}
 use Prim.Native.Nat.{ℕ, suc, ◌+◌, ◌-◌, ◌≤◌, ◌<◌}
 use Prim.Native.Char.{code}
 use native.Mathlib.Omega.{arith}
 use lib.ListN.{length, length-append, drop, length-drop, drop_of_length-le}
 use Rattle.exact.specs.Exact.{done, more, Reader, Exact, sound, done≢more, done≢bad}
-use Rattle.exact.specs.Chain.{clash}
 use Rattle.grammar.specs.Bytes.{Bytes}
 use Rattle.grammar.specs.Limits.{DEPTH}
 use Rattle.grammar.specs.Filler.{below_root, Filler, spell_filler, GoodFiller}
@@ -19,15 +17,14 @@ use Rattle.model.specs.Elements.{elem_p, content_p, IsElement}
 use Rattle.model.proofs.Elements.{element_lt, element_no_bang, read_exact}
 use Rattle.scan.specs.Pieces.{Got, chained}
 use Rattle.scan.proofs.Chain.{then_done, pass, moved}
-use Rattle.std.specs.Prelude.{Ok, Err}
+use Rattle.std.specs.Prelude.{Ok, Err, Some, None}
 use Rattle.scan.specs.declared.Stop.{Stop}
 use Rattle.scan.specs.declared.Stop.TheVariants.{Open, Bad}
 use Rattle.fillers.specs.Fills.{fill_tok, GotFiller}
 use Rattle.fillers.proofs.Fills.{fill_bind, fill_word}
 use Rattle.grammar.specs.Places.{Outlines}
 use Rattle.reader.specs.Message.{itself, none, InnerRead, GotInner}
-use Rattle.reader.specs.Child.{no_child, Next, Stands, NextChild}
-use Rattle.reader.specs.declared.message.Inner.{Inner}
+use Rattle.reader.specs.Child.{Next, Stands, NextChild}
 use Rattle.reader.specs.declared.answer.Child.{Child}
 use Rattle.reader.proofs.message.Laws.{filler_there}
 
@@ -65,28 +62,24 @@ fails_none : {s : Bytes} {at : ℕ} (x : Stop) → Got 1 s at (Err x) (next_p (d
 fails_none Open g f y n = done≢more (next_read n) g.says
 fails_none (Bad p) g f y n = done≢bad (next_read n) g.says.2
 
-module _ (s : Bytes) (at : ℕ) (r : Child) where
-  -- no child
-  absent : r ≡ no_child → ((f : Filler) (x : Element) → ¬ Next (drop at s) f x) → NextChild s at r
-  absent q n = record { found = λ z. clash (sym z ∙ ap (λ (c : Child). c.found) q); none = λ z. (q, n) }
+module _ (s : Bytes) (at : ℕ) where
+  pub child_out : length s < at → NextChild s at None
+  child_out h = record { says = fails_none {s = s} {at = at} Open (record { says = let k : length s ≤ at = omega arith in ap next_p (drop_of_length-le s k) ∙ next_open }) }
 
-  pub child_out : length s < at → r ≡ no_child → NextChild s at r
-  child_out h q = absent q (fails_none {s = s} {at = at} Open (record { says = let k : length s ≤ at = omega arith in ap next_p (drop_of_length-le s k) ∙ next_open }))
-
-  pub child_bare : {x : Stop} → GotFiller below_root s at (Err x) → r ≡ no_child → NextChild s at r
-  child_bare {x} g q = absent q (fails_none x (pass g.says 1 at (omega arith) _ (next_bind (drop at s))))
+  pub child_bare : {x : Stop} → GotFiller below_root s at (Err x) → NextChild s at None
+  child_bare {x} g = record { says = fails_none x (pass g.says 1 at (omega arith) _ (next_bind (drop at s))) }
 
   module _ (j : ℕ) (g₁ : Got 1 s at (Ok j) (fill_tok below_root (drop at s))) (old new : List ℕ) where
     so : next_p (drop at s) ≡ element_p (drop j s)
     so = next_bind (drop at s) ∙ then_done _ g₁.says.3
 
-    pub child_none : {x : Stop} → GotInner itself none s j old new (Err x) (element_p (drop j s)) → r ≡ no_child → NextChild s at r
-    child_none {x} g q =
+    pub child_none : {x : Stop} → GotInner itself none s j old new (Err x) (element_p (drop j s)) → NextChild s at None
+    child_none {x} g =
         let g' : Got 1 s j (Err x) (element_p (drop j s)) = record { says = g.says } in
-        absent q (fails_none x (moved g' 1 at (let h = g₁.says.1 in omega arith) (let h = g₁.says.1 in omega arith) so))
+        record { says = fails_none x (moved g' 1 at (let h = g₁.says.1 in omega arith) (let h = g₁.says.1 in omega arith) so) }
 
-    pub child_found : {c : Inner} → InnerRead itself none s j old new c (element_p (drop j s)) → r ≡ record { found = true; from = c.from; to = c.to; count = c.count; inside = c.inside; next = c.end } → NextChild s at r
-    child_found {c} g q = record { found = λ _. stands; none = λ y. clash (sym (ap (λ (c : Child). c.found) q) ∙ y) }
+    pub child_found : {c : Child} → InnerRead itself none s j old new c (element_p (drop j s)) → NextChild s at (Some c)
+    child_found {c} g = record { says = stands }
       where
         x : Element
         x = g.value
@@ -97,16 +90,16 @@ module _ (s : Bytes) (at : ℕ) (r : Child) where
         place : j ≡ at + length (spell_filler f) + 1
         place = filler_there below_root s at j g₁
 
-        stands : Stands s at r
+        stands : Stands s at c
         stands =
-            let (u, i, l) = sound (read_exact (DEPTH - 3)) (drop j s) x (drop c.end s) g.reads in
+            let (u, i, l) = sound (read_exact (DEPTH - 3)) (drop j s) x (drop c.next s) g.reads in
             let (w, good) = filler_word s at j g₁ in
-            let n : length s - j ≡ length u + (length s - c.end) = sym (length-drop j s) ∙ ap length i ∙ length-append u (drop c.end s) ∙ ap (λ (m : ℕ). length u + m) (length-drop c.end s) in
+            let n : length s - j ≡ length u + (length s - c.next) = sym (length-drop j s) ∙ ap length i ∙ length-append u (drop c.next s) ∙ ap (λ (m : ℕ). length u + m) (length-drop c.next s) in
             let k : suc (length u) ≡ length (spell_element x) = ap length l.spelt in
-            subst (λ (r : Child). Stands s at r) (sym q) (record {
+            record {
               f = f;
               x = x;
-              next = record { rest = drop c.end s; filler = good; element = l.good; whole = w ∙ ap (λ (y : Bytes). spell_filler f ++ code "<" ∷ y) i ∙ ap (λ (y : Bytes). spell_filler f ++ (y ++ drop c.end s)) l.spelt };
-              lines = subst (λ (m : ℕ). Outlines m x c.from c.to c.count c.inside) (let p = place in omega arith) g.drawn.lines;
+              next = record { rest = drop c.next s; filler = good; element = l.good; whole = w ∙ ap (λ (y : Bytes). spell_filler f ++ code "<" ∷ y) i ∙ ap (λ (y : Bytes). spell_filler f ++ (y ++ drop c.next s)) l.spelt };
+              lines = subst (λ (m : ℕ). Outlines m x c.outline.from c.outline.to c.outline.count c.outline.inside) (let p = place in omega arith) g.drawn.lines;
               ends = let p = place in let a = g.far in let b = g.upto in omega arith;
-            })
+            }

@@ -1,6 +1,6 @@
 -- What stands at the places that an outline or a child names: the name, the attributes, the content; and that `child`, called
 -- again and again from the place behind a start tag, finds the children of that content and then its end.
-use Rattle.std.specs.Prelude.{◌≡◌, List, [], ◌∷◌, ◌++◌, Bool, true, false, ℕ, suc, ◌+◌, ◌-◌, length, take, drop}
+use Rattle.std.specs.Prelude.{◌≡◌, List, [], ◌∷◌, ◌++◌, ℕ, suc, ◌+◌, ◌-◌, length, take, drop, Option, Some, None}
 use Rattle.std.proofs.Math.Path.{refl, sym, ap}
 use Rattle.std.proofs.Common.{subst, ◌∙◌, append_assoc, arith, length-append}
 use Prim.Native.Char.{code}
@@ -24,9 +24,9 @@ use Rattle.fillers.specs.Fills.{fill_tok}
 use Rattle.fillers.proofs.Fills.{fill_bind, word_fill}
 use Rattle.grammar.specs.Places.{child_of, Outlines}
 use Rattle.reader.specs.Answer.{Accepted}
-use Rattle.reader.specs.Child.{no_child, Next, Stands, NextChild}
+use Rattle.reader.specs.Child.{Next, Stands, NextChild}
 use Rattle.reader.specs.declared.answer.Child.{Child}
-use Rattle.reader.specs.Parts.{NextIn, InContent}
+use Rattle.reader.specs.Parts.{InContent}
 
 -- the same of an accepted message
 pub accepted_parts : {s : Bytes} {start end from to count inside : ℕ} {old new : List ℕ} (a : Accepted s start end from to count inside old new) → (rest : Bytes) × Parts s (child_of a.layout) from to inside rest
@@ -36,7 +36,7 @@ accepted_parts {s} {start} {end} a = laid_parts s start end a.layout a.laid a.li
 pub accepted_reads : {s : Bytes} {start end from to count inside : ℕ} {old new : List ℕ} (a : Accepted s start end from to count inside old new) → Message (take (end - start) (drop start s)) (read_layout a.layout)
 accepted_reads a = record { layout = a.layout; laid = a.laid; reads = refl }
 
-pub child_parts : {s : Bytes} {at : ℕ} {r : Child} (p : Stands s at r) → Parts s p.x r.from r.to r.inside p.next.rest
+pub child_parts : {s : Bytes} {at : ℕ} {r : Child} (p : Stands s at r) → Parts s p.x r.outline.from r.outline.to r.outline.inside p.next.rest
 child_parts {s} {at} p =
     let f = spell_filler p.f in
     let e : drop at s ≡ (f ++ code "<" ∷ []) ++ (behind_lt p.x ++ p.next.rest) = p.next.whole ∙ ap (λ (y : Bytes). f ++ (y ++ p.next.rest)) (element_is p.x) ∙ sym (append_assoc f (code "<" ∷ []) (behind_lt p.x ++ p.next.rest)) in
@@ -88,16 +88,13 @@ end_no_child {w} f y h e f' x n =
     done≢bad (ap met_p (met_whole n) ∙ met_exact.comp (met_word n) (met f' x) n.rest (met_there n)) b
 
 -- n is the name of the element whose content this is
-pub in_content : {s : Bytes} {at : ℕ} {r : Child} (n g rest : Bytes) (c : Content) → GoodContent (DEPTH - 2) c → drop at s ≡ spell_content c ++ (spell_end n g ++ rest) → NextChild s at r → InContent s at c (spell_end n g ++ rest) r
-in_content {s} {at} {r} n g rest (bare f) (good_bare h) e p = go r.found refl
+pub in_content : {s : Bytes} {at : ℕ} {r : Option Child} (n g rest : Bytes) (c : Content) → GoodContent (DEPTH - 2) c → drop at s ≡ spell_content c ++ (spell_end n g ++ rest) → NextChild s at r → InContent s at c (spell_end n g ++ rest) r
+in_content {r = None} n g rest (bare f) (good_bare h) e p = refl
+in_content {r = Some r} n g rest (bare f) (good_bare h) e p = absurd (end_no_child f (n ++ ((g ++ text ">") ++ rest)) h (e ∙ ends) p.says.f p.says.x p.says.next)
   where
-    go : (z : Bool) → r.found ≡ z → r ≡ no_child
-    go false q = (p.none q).0
-    go true q = let t = p.found q in absurd (end_no_child f (n ++ ((g ++ text ">") ++ rest)) h (e ∙ ends) t.f t.x t.next)
-      where
-        ends : spell_filler f ++ (spell_end n g ++ rest) ≡ spell_filler f ++ code "<" ∷ code "/" ∷ (n ++ ((g ++ text ">") ++ rest))
-        ends = ap (λ (y : Bytes). spell_filler f ++ code "<" ∷ code "/" ∷ y) (append_assoc n (g ++ text ">") rest)
-in_content {s} {at} {r} n g rest (child f x c) (good_child h k m) e p = go r.found refl
+    ends : spell_filler f ++ (spell_end n g ++ rest) ≡ spell_filler f ++ code "<" ∷ code "/" ∷ (n ++ ((g ++ text ">") ++ rest))
+    ends = ap (λ (y : Bytes). spell_filler f ++ code "<" ∷ code "/" ∷ y) (append_assoc n (g ++ text ">") rest)
+in_content {s} {at} {r} n g rest (child f x c) (good_child h k m) e p = go r p
   where
     left : Bytes
     left = spell_content c ++ (spell_end n g ++ rest)
@@ -105,16 +102,15 @@ in_content {s} {at} {r} n g rest (child f x c) (good_child h k m) e p = go r.fou
     here : Next (drop at s) f x
     here = record { rest = left; filler = h; element = k; whole = e ∙ append_assoc (spell_filler f) (spell_element x ++ spell_content c) (spell_end n g ++ rest) ∙ ap (λ (y : Bytes). spell_filler f ++ y) (append_assoc (spell_element x) (spell_content c) (spell_end n g ++ rest)) }
 
-    go : (z : Bool) → r.found ≡ z → NextIn s at f x left r
-    go false q = absurd ((p.none q).1 f x here)
-    go true q =
-        let t = p.found q in
+    go : (r : Option Child) → NextChild s at r → InContent s at (child f x c) (spell_end n g ++ rest) r
+    go None p = absurd (p.says f x here)
+    go (Some r) p =
+        let t = p.says in
         let (a, b, d) = next_one t.next here in
         let w : drop at s ≡ (spell_filler f ++ spell_element x) ++ left = here.whole ∙ sym (append_assoc (spell_filler f) (spell_element x) left) in
         let l : r.next ≡ at + length (spell_filler f ++ spell_element x) = t.ends ∙ rw (a, b) (let y = length-append (spell_filler f) (spell_element x) in omega arith) in
         record {
-          found = q;
-          lines = subst (λ (y : Element). Outlines (at + length (spell_filler f) + 1) y r.from r.to r.count r.inside) b (subst (λ (y : Filler). Outlines (at + length (spell_filler y) + 1) t.x r.from r.to r.count r.inside) a t.lines);
+          lines = subst (λ (y : Element). Outlines (at + length (spell_filler f) + 1) y r.outline.from r.outline.to r.outline.count r.outline.inside) b (subst (λ (y : Filler). Outlines (at + length (spell_filler y) + 1) t.x r.outline.from r.outline.to r.outline.count r.outline.inside) a t.lines);
           left_over = ap (λ (m : ℕ). drop m s) l ∙ behind s (spell_filler f ++ spell_element x) left at w;
         }
 

@@ -1,6 +1,6 @@
 -- What the promises of `read` and `outline` determine, and what each answer of `read` says: `Answers s (paper r)` is what it
 -- promises of its answer r. Of every result it is said in Demand3.
-use Rattle.std.specs.Prelude.{◌≡◌, refl, List, [], ◌∷◌, ◌++◌, ◌↔◌, Bool, true, false, ℕ, ◌+◌, ◌*◌, ◌≤◌, ◌<◌, length, drop}
+use Rattle.std.specs.Prelude.{◌≡◌, refl, List, [], ◌∷◌, ◌++◌, ◌↔◌, false, ℕ, ◌+◌, ◌*◌, ◌≤◌, ◌<◌, length, drop, Result, Ok, Err, Option, Some, None}
 use Rattle.std.proofs.Common.{sym, ap, subst, ◌∙◌, append_assoc, append-nil, arith, length-append, drop_at}
 use Rattle.exact.specs.Exact.{inhabited}
 use Rattle.exact.specs.Byte.{Starts, starts}
@@ -19,12 +19,15 @@ use Rattle.model.proofs.Cuts.{message_starts, piece_behind}
 use Rattle.model.proofs.Theorems.{one_layout, answers_only, tail_free as tail-free-by}
 use Rattle.tags.specs.Places.{places}
 use Rattle.grammar.specs.Places.{child_of, tag_in, lead, inside_from, Outlines}
-use Rattle.reader.specs.Answer.{paper, Accepted, RestOf, Outlined}
+use Rattle.reader.specs.Answer.{paper, unread, Accepted, Outlined}
 use Rattle.reader.specs.declared.answer.Answer.{Answer}
 use Rattle.reader.specs.declared.answer.Answer.TheVariants.{Ends, More, Malformed, TooLong}
 use Rattle.reader.specs.Child.{Stands, NextChild}
 use Rattle.reader.proofs.Parts.{next_one}
 use Rattle.reader.specs.declared.answer.Outline.{Outline}
+use Rattle.reader.specs.declared.answer.Sketch.{Sketch}
+use Rattle.reader.specs.declared.answer.Unread.{Unread}
+use Rattle.reader.specs.declared.answer.Unread.TheVariants.{More as Begun, Malformed as Dead, TooLong as Over}
 use Rattle.reader.specs.declared.answer.Child.{Child}
 use Rattle.reader.specs.Theorems.{EachFits, fits_piece, Finds}
 
@@ -58,30 +61,75 @@ same_lines {m} {m'} {x} {x'} {f} {t} {c} {i} {f'} {t'} {c'} {i'} e₁ e₂ p q' 
     let d : c ≡ c' = p.counts ∙ sym q.counts in
     (a, b, d, p.behind ∙ ap (λ (t : ℕ). inside_from t x) b ∙ sym q.behind)
 
+outline_same : (r r' : Outline) → r.from ≡ r'.from → r.to ≡ r'.to → r.count ≡ r'.count → r.inside ≡ r'.inside → r ≡ r'
+outline_same r r' a b c d = made a b c d
+  where
+    made : {f t n i f' t' n' i' : ℕ} → f ≡ f' → t ≡ t' → n ≡ n' → i ≡ i' → ◌≡◌ {A = Outline} (record { from = f; to = t; count = n; inside = i }) (record { from = f'; to = t'; count = n'; inside = i' })
+    made a b c d = rw (a, b, c, d)
+
+sketch_only : (r r' : Sketch) → r.start ≡ r'.start → r.end ≡ r'.end → r.child ≡ r'.child → r ≡ r'
+sketch_only r r' a b c = made a b c
+  where
+    made : {n m n' m' : ℕ} {x x' : Outline} → n ≡ n' → m ≡ m' → x ≡ x' → ◌≡◌ {A = Sketch} (record { start = n; end = m; child = x }) (record { start = n'; end = m'; child = x' })
+    made a b c = rw (a, b, c)
+
+next_same : (r r' : Child) → r.outline ≡ r'.outline → r.next ≡ r'.next → r ≡ r'
+next_same r r' a b = made a b
+  where
+    made : {x x' : Outline} {n n' : ℕ} → x ≡ x' → n ≡ n' → ◌≡◌ {A = Child} (record { outline = x; next = n }) (record { outline = x'; next = n' })
+    made a b = rw (a, b)
+
 same_child : {s : Bytes} {start end f t c i f' t' c' i' : ℕ} {old new new' : List ℕ} → Accepted s start end f t c i old new → Accepted s start end f' t' c' i' old new' → (f ≡ f') × (t ≡ t') × (c ≡ c') × (i ≡ i')
 same_child {start} p q = let e = one_layout p.laid q.laid in same_lines (ap (λ (l : Layout). start + length (lead l)) e) (ap child_of e) p.lines q.lines
 
-same_rest : (s : Bytes) (old new new' : List ℕ) (a : Answer) (f t c i f' t' c' i' : ℕ) → RestOf s old new a f t c i → RestOf s old new' a f' t' c' i' → (f ≡ f') × (t ≡ t') × (c ≡ c') × (i ≡ i')
-same_rest s old new new' (Ends start end) f t c i f' t' c' i' p q = same_child p q
-same_rest s old new new' (More start) f t c i f' t' c' i' p q = (p.0 ∙ sym q.0, p.1 ∙ sym q.1, p.2 ∙ sym q.2, p.3 ∙ sym q.3)
-same_rest s old new new' (Malformed start place) f t c i f' t' c' i' p q = (p.0 ∙ sym q.0, p.1 ∙ sym q.1, p.2 ∙ sym q.2, p.3 ∙ sym q.3)
-same_rest s old new new' (TooLong start) f t c i f' t' c' i' p q = (p.0 ∙ sym q.0, p.1 ∙ sym q.1, p.2 ∙ sym q.2, p.3 ∙ sym q.3)
+abbrev unread_answer : Unread → Answer
+unread_answer (Begun start) = More start
+unread_answer (Dead start place) = Malformed start place
+unread_answer (Over start) = TooLong start
+
+-- an answer that is one of the paper's without a message
+unread_paper : (x : Unread) → paper (unread_answer x) ≡ unread x
+unread_paper (Begun start) = refl
+unread_paper (Dead start place) = refl
+unread_paper (Over start) = refl
+
+unread_same : (x x' : Unread) → unread_answer x ≡ unread_answer x' → x ≡ x'
+unread_same (Begun a) (Begun b) e = cc
+unread_same (Begun a) (Dead b p) e = cc
+unread_same (Begun a) (Over b) e = cc
+unread_same (Dead a p) (Begun b) e = cc
+unread_same (Dead a p) (Dead b q) e = cc
+unread_same (Dead a p) (Over b) e = cc
+unread_same (Over a) (Begun b) e = cc
+unread_same (Over a) (Dead b p) e = cc
+unread_same (Over a) (Over b) e = cc
+
+-- an answer without a message is none with one
+unread_apart : {A : Type 0} (s : Bytes) (start end : ℕ) (x : Unread) → Answers s (ends_at start end) → Answers s (unread x) → A
+unread_apart s start end x p q = go x (read_only s (Ends start end) (unread_answer x) p (subst (λ (a : PaperAnswer). Answers s a) (sym (unread_paper x)) q))
+  where
+    go : {A : Type 0} (x : Unread) → Ends start end ≡ unread_answer x → A
+    go (Begun a) e = cc
+    go (Dead a p) e = cc
+    go (Over a) e = cc
 
 -- no second outline satisfies the promise of `outline`
-pub outline_only : (s : Bytes) (old new new' : List ℕ) (r r' : Outline) → Outlined s old new r → Outlined s old new' r' → r ≡ r'
-outline_only s old new new' r r' p q =
-    let e : r.answer ≡ r'.answer = read_only s r.answer r'.answer p.answers q.answers in
-    let y : RestOf s old new r'.answer r.from r.to r.count r.inside = subst (λ (a : Answer). RestOf s old new a r.from r.to r.count r.inside) e p.rest in
-    let (a, b, c, d) = same_rest s old new new' r'.answer r.from r.to r.count r.inside r'.from r'.to r'.count r'.inside y q.rest in
-    made e a b c d
+pub outline_only : (s : Bytes) (old new new' : List ℕ) (r r' : Result Sketch Unread) → Outlined s old new r → Outlined s old new' r' → r ≡ r'
+outline_only s old new new' (Ok r) (Ok r') p q =
+    let e : Ends r.start r.end ≡ Ends r'.start r'.end = read_only s (Ends r.start r.end) (Ends r'.start r'.end) p.says.answers q.says.answers in
+    let x : r.start ≡ r'.start = cc in
+    let y : r.end ≡ r'.end = cc in
+    let z : Accepted s r.start r.end r'.child.from r'.child.to r'.child.count r'.child.inside old new' = rw (x, y) q.says.accepted in
+    let (a, b, c, d) = same_child p.says.accepted z in
+    made x y a b c d
   where
-    made : r.answer ≡ r'.answer → r.from ≡ r'.from → r.to ≡ r'.to → r.count ≡ r'.count → r.inside ≡ r'.inside → r ≡ r'
-    made e a b c d =
-        ap (λ (x : Answer). record { answer = x; from = r.from; to = r.to; count = r.count; inside = r.inside }) e
-        ∙ ap (λ (x : ℕ). record { answer = r'.answer; from = x; to = r.to; count = r.count; inside = r.inside }) a
-        ∙ ap (λ (x : ℕ). record { answer = r'.answer; from = r'.from; to = x; count = r.count; inside = r.inside }) b
-        ∙ ap (λ (x : ℕ). record { answer = r'.answer; from = r'.from; to = r'.to; count = x; inside = r.inside }) c
-        ∙ ap (λ (x : ℕ). record { answer = r'.answer; from = r'.from; to = r'.to; count = r'.count; inside = x }) d
+    made : r.start ≡ r'.start → r.end ≡ r'.end → r.child.from ≡ r'.child.from → r.child.to ≡ r'.child.to → r.child.count ≡ r'.child.count → r.child.inside ≡ r'.child.inside → ◌≡◌ {A = Result Sketch Unread} (Ok r) (Ok r')
+    made x y a b c d = ap Ok (sketch_only r r' x y (outline_same r.child r'.child a b c d))
+outline_only s old new new' (Ok r) (Err x) p q = unread_apart s r.start r.end x p.says.answers q.says
+outline_only s old new new' (Err x) (Ok r) p q = unread_apart s r.start r.end x q.says.answers p.says
+outline_only s old new new' (Err x) (Err x') p q =
+    let e : unread_answer x ≡ unread_answer x' = read_only s (unread_answer x) (unread_answer x') (subst (λ (a : PaperAnswer). Answers s a) (sym (unread_paper x)) p.says) (subst (λ (a : PaperAnswer). Answers s a) (sym (unread_paper x')) q.says) in
+    ap Err (unread_same x x' e)
 
 -- nor, with a message, a second table, if one is lent
 pub table_only : (s : Bytes) (start end f t c i f' t' c' i' : ℕ) (old new new' : List ℕ) → length old ≡ 4 * ATTRIBUTES → Accepted s start end f t c i old new → Accepted s start end f' t' c' i' old new' → new ≡ new'
@@ -89,30 +137,18 @@ table_only s start end f t c i f' t' c' i' old new new' h p q =
     p.table h ∙ ap (λ (l : Layout). places 0 (tag_in (child_of l)).attributes ++ drop (4 * length (tag_in (child_of l)).attributes) old) (one_layout p.laid q.laid) ∙ sym (q.table h)
 
 -- no second child satisfies the promise of `child`
-pub child_only : (s : Bytes) (at : ℕ) (r r' : Child) → NextChild s at r → NextChild s at r' → r ≡ r'
-child_only s at r r' p q = go r.found r'.found refl refl
+pub child_only : (s : Bytes) (at : ℕ) (r r' : Option Child) → NextChild s at r → NextChild s at r' → r ≡ r'
+child_only s at (Some r) (Some r') p q = both p.says q.says
   where
-    made : r.found ≡ r'.found → r.from ≡ r'.from → r.to ≡ r'.to → r.count ≡ r'.count → r.inside ≡ r'.inside → r.next ≡ r'.next → r ≡ r'
-    made f a b c d e =
-        ap (λ (x : Bool). record { found = x; from = r.from; to = r.to; count = r.count; inside = r.inside; next = r.next }) f
-        ∙ ap (λ (x : ℕ). record { found = r'.found; from = x; to = r.to; count = r.count; inside = r.inside; next = r.next }) a
-        ∙ ap (λ (x : ℕ). record { found = r'.found; from = r'.from; to = x; count = r.count; inside = r.inside; next = r.next }) b
-        ∙ ap (λ (x : ℕ). record { found = r'.found; from = r'.from; to = r'.to; count = x; inside = r.inside; next = r.next }) c
-        ∙ ap (λ (x : ℕ). record { found = r'.found; from = r'.from; to = r'.to; count = r'.count; inside = x; next = r.next }) d
-        ∙ ap (λ (x : ℕ). record { found = r'.found; from = r'.from; to = r'.to; count = r'.count; inside = r'.inside; next = x }) e
-
-    both : r.found ≡ true → r'.found ≡ true → Stands s at r → Stands s at r' → r ≡ r'
-    both y y' a b =
+    both : Stands s at r → Stands s at r' → ◌≡◌ {A = Option Child} (Some r) (Some r')
+    both a b =
         let (e, d, z) = next_one a.next b.next in
         let (g, h, i, j) = same_lines (ap (λ (f : Filler). at + length (spell_filler f) + 1) e) d a.lines b.lines in
         let l : r.next ≡ r'.next = a.ends ∙ ap (λ (f : Filler). at + length (spell_filler f) + length (spell_element a.x)) e ∙ ap (λ (x : Element). at + length (spell_filler b.f) + length (spell_element x)) d ∙ sym b.ends in
-        made (y ∙ sym y') g h i j l
-
-    go : (z z' : Bool) → r.found ≡ z → r'.found ≡ z' → r ≡ r'
-    go true true y y' = both y y' (p.found y) (q.found y')
-    go true false y y' = let a = p.found y in absurd ((q.none y').1 a.f a.x a.next)
-    go false true y y' = let b = q.found y' in absurd ((p.none y).1 b.f b.x b.next)
-    go false false y y' = (p.none y).0 ∙ sym (q.none y').0
+        ap Some (next_same r r' (outline_same r.outline r'.outline g h i j) l)
+child_only s at (Some r) None p q = absurd (q.says p.says.f p.says.x p.says.next)
+child_only s at None (Some r) p q = absurd (p.says q.says.f q.says.x q.says.next)
+child_only s at None None p q = refl
 
 -- "With the limit of 65,536 bytes, and glue before it dropped, a string is accepted as well formed to its last byte
 -- exactly if it is one of them"

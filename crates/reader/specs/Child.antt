@@ -1,14 +1,11 @@
 -- The next child in a content.
-use Rattle.std.specs.Prelude.{◌≡◌, ◌++◌, true, false, ℕ, ◌+◌, ◌-◌, length, drop}
+use Rattle.std.specs.Prelude.{◌≡◌, ◌++◌, ℕ, ◌+◌, ◌-◌, length, drop, Option, Some, None}
 use Rattle.grammar.specs.Bytes.{Bytes}
 use Rattle.grammar.specs.Limits.{DEPTH}
 use Rattle.grammar.specs.Filler.{below_root, Filler, spell_filler, GoodFiller}
 use Rattle.grammar.specs.Element.{Element, spell_element, GoodElement}
 use Rattle.grammar.specs.Places.{Outlines}
 use Rattle.reader.specs.declared.answer.Child.{Child}
-
-abbrev pub no_child : Child
-no_child = record { found = false; from = 0; to = 0; count = 0; inside = 0; next = 0 }
 
 -- the bytes w begin with filler and an element: a child of the root's child, with what may be open inside it
 pub record Next (w : Bytes) (f : Filler) (x : Element) : Type 0 where
@@ -22,10 +19,13 @@ pub record Stands (s : Bytes) (at : ℕ) (r : Child) : Type 0 where
   pub f : Filler
   pub x : Element
   pub next : Next (drop at s) f x
-  pub lines : Outlines (at + length (spell_filler f) + 1) x r.from r.to r.count r.inside
+  pub lines : Outlines (at + length (spell_filler f) + 1) x r.outline.from r.outline.to r.outline.count r.outline.inside
   pub ends : r.next ≡ at + length (spell_filler f) + length (spell_element x)
 
 -- a child is found exactly if one stands at `at`
-pub record NextChild (s : Bytes) (at : ℕ) (r : Child) : Type 0 where
-  pub found : r.found ≡ true → Stands s at r
-  pub none : r.found ≡ false → (r ≡ no_child) × ((f : Filler) (x : Element) → ¬ Next (drop at s) f x)
+abbrev pub NextCase : Bytes → ℕ → Option Child → Type 0
+NextCase s at (Some r) = Stands s at r
+NextCase s at None = (f : Filler) (x : Element) → ¬ Next (drop at s) f x
+
+pub record NextChild (s : Bytes) (at : ℕ) (r : Option Child) : Type 0 where
+  pub says : NextCase s at r

@@ -1,17 +1,16 @@
 // The reader of messages: what stands behind the glue in front of an input, as one of the four answers.
 #![tactic(auto)]
 
-ghost use Rattle.std.specs.Prelude.{◌≡◌};
 ghost use Rattle.grammar.specs.Answer.{Answers};
-ghost use Rattle.reader.specs.Answer.{paper, AtMost, bare, Outlined};
-ghost use Rattle.reader.specs.Child.{no_child, NextChild};
+ghost use Rattle.reader.specs.Answer.{paper, AtMost, Outlined};
+ghost use Rattle.reader.specs.Child.{NextChild};
 
 pub mod answer;
 mod declaration;
 mod elements;
 mod message;
 
-use answer::{Answer, Child, Outline};
+use answer::{Answer, Child, Sketch, Unread};
 use grammar::Limits;
 use scan::Stop;
 
@@ -25,48 +24,27 @@ fn window(left: usize) -> usize
     Limits::MESSAGE
 }
 
-/// An answer without a message.
-fn unread(answer: Answer) -> Outline
-    ensures { result ≡ bare answer }
-{
-    Outline {
-        answer: answer,
-        from: 0,
-        to: 0,
-        count: 0,
-        inside: 0,
-    }
-}
-
 /// What stands behind the glue in front of s; of a message the attributes of its root's child have their places in a table that is lent for them,
 /// counted from the place behind its name. Without a message the table is scratch.
-pub fn outline(s: &[u8], table: &mut [u16]) -> Outline
+pub fn outline(s: &[u8], table: &mut [u16]) -> Result<Sketch, Unread>
     ensures { Outlined s.now table.old table.new result }
 {
     let start = scan::skip_glue(s, 0);
     let n = window(s.len() - start);
     let end = start + n;
     match message::message(&s[..end], start, &mut *table) {
-        Ok(m) => Outline {
-            answer: Answer::Ends {
-                start: start,
-                end: m.end,
-            },
-            from: m.from,
-            to: m.to,
-            count: m.count,
-            inside: m.inside,
-        },
+        Ok(m) => Ok(Sketch {
+            start,
+            end: m.next,
+            child: m.outline,
+        }),
         Err(Stop::Open) => {
             if n < Limits::MESSAGE {
-                return unread(Answer::More { start: start });
+                return Err(Unread::More { start });
             }
-            unread(Answer::TooLong { start: start })
+            Err(Unread::TooLong { start })
         }
-        Err(Stop::Bad(p)) => unread(Answer::Malformed {
-            start: start,
-            place: p,
-        }),
+        Err(Stop::Bad(place)) => Err(Unread::Malformed { start, place }),
     }
 }
 
@@ -75,45 +53,31 @@ pub fn read(s: &[u8]) -> Answer
     ensures { Answers s.now (paper result) }
 {
     let mut none = [0u16; 0];
-    let o = outline(s, &mut none);
-    o.answer
-}
-
-/// No child.
-fn no_child() -> Child
-    ensures { result ≡ no_child }
-{
-    Child {
-        found: false,
-        from: 0,
-        to: 0,
-        count: 0,
-        inside: 0,
-        next: 0,
+    match outline(s, &mut none) {
+        Ok(o) => Answer::Ends {
+            start: o.start,
+            end: o.end,
+        },
+        Err(Unread::More { start }) => Answer::More { start },
+        Err(Unread::Malformed { start, place }) => Answer::Malformed { start, place },
+        Err(Unread::TooLong { start }) => Answer::TooLong { start },
     }
 }
 
 /// The element that stands at `at` behind filler, as the next child stands in the content of a message's root's child or
 /// below it.
-pub fn child(s: &[u8], at: usize) -> Child
+pub fn child(s: &[u8], at: usize) -> Option<Child>
     ensures { NextChild s.now at result }
 {
     if s.len() < at {
-        return no_child();
+        return None;
     }
     let Ok(j) = fillers::filler_lt(s, at, true) else {
-        return no_child();
+        return None;
     };
     let mut none = [0u16; 0];
     let Ok(c) = message::child_at(s, j, Limits::DEPTH - 3, &mut none) else {
-        return no_child();
+        return None;
     };
-    Child {
-        found: true,
-        from: c.from,
-        to: c.to,
-        count: c.count,
-        inside: c.inside,
-        next: c.end,
-    }
+    Some(c)
 }

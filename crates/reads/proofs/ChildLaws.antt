@@ -9,7 +9,6 @@ use lib.Seq.{length-take-le}
 use borrow.Author.Tests.{leb-true}
 use Rattle.std.specs.Prelude.{Option, None, Some, is_some}
 use mir.Val.{bool_byte}
-use Rattle.exact.specs.Chain.{clash}
 use Rattle.grammar.specs.Bytes.{Bytes, text, same}
 use Rattle.grammar.specs.Limits.{DEPTH}
 use Rattle.grammar.specs.Tree.{Forest}
@@ -17,7 +16,7 @@ use Rattle.grammar.specs.Attribute.{spell_attributes}
 use Rattle.grammar.specs.Filler.{Filler, spell_filler}
 use Rattle.grammar.specs.Element.{Element, empty, full, Content, bare, child, spell_end, spell_element, spell_content, GoodElement, good_full, GoodContent, good_child, read_element, read_content}
 use Rattle.grammar.specs.Places.{tag_in, inside_from}
-use Rattle.reader.specs.Child.{no_child, Next, Stands, NextChild}
+use Rattle.reader.specs.Child.{Next, Stands, NextChild}
 use Rattle.model.specs.Standing.{Parts}
 use Rattle.reader.specs.Parts.{InContent}
 use Rattle.reader.proofs.Parts.{child_parts, next_one, in_content, content_deeper}
@@ -32,8 +31,8 @@ use Rattle.reads.specs.Kept.{as_cell, lacking, features_of, NotesIn, SUPPORTED, 
 
 -- a found child stands inside the bytes, and the search goes on behind it
 pub record Ahead (s : Bytes) (at : ℕ) (r : Child) : Type 0 where
-  pub ordered : r.from ≤ r.to
-  pub within : r.to ≤ length s
+  pub ordered : r.outline.from ≤ r.outline.to
+  pub within : r.outline.to ≤ length s
   pub on : at < r.next
   pub upto : r.next ≤ length s
 
@@ -44,8 +43,12 @@ named_shorter (full t c g) =
     let b = length-append (t.name ++ (spell_attributes t.attributes ++ (t.trail ++ text ">"))) (spell_content c ++ spell_end t.name g) in
     omega arith
 
-pub found_ahead : {s : Bytes} {at : ℕ} {r : Child} → NextChild s at r → r.found ≡ true → Ahead s at r
-found_ahead {s} {at} {r} p q = go (p.found q)
+-- a child that is known
+pub known_child : {s : Bytes} {at : ℕ} {r : Option Child} {c : Child} → r ≡ Some c → NextChild s at r → NextChild s at (Some c)
+known_child {s} {at} q p = subst (λ (r : Option Child). NextChild s at r) q p
+
+pub found_ahead : {s : Bytes} {at : ℕ} {r : Child} → NextChild s at (Some r) → Ahead s at r
+found_ahead {s} {at} {r} p = go p.says
   where
     go : Stands s at r → Ahead s at r
     go t =
@@ -102,21 +105,21 @@ children_stand s (full t c g) {from} {to} {inside} rest (good_full a b h) e p = 
         let v = length-append t.trail (text ">") in
         omega arith
 
-module _ {s : Bytes} {inside : ℕ} {name : Bytes} {at : ℕ} {r : Child} (so_far : Searched s inside name at) (p : NextChild s at r) where
+module _ {s : Bytes} {inside : ℕ} {name : Bytes} {at : ℕ} (so_far : Searched s inside name at) where
   -- the content has ended
-  pub search_ends : {u : Option ℕ} → r.found ≡ false → u ≡ None → FirstIn s inside name u
-  search_ends {u} q e = record { says = λ f h. go f (so_far.left f h) }
+  pub search_ends : NextChild s at None → FirstIn s inside name None
+  search_ends p = record { says = λ f h. go f (so_far.left f h) }
     where
-      at_end : (f : Forest) (c : Content) (end : Bytes) → has_child name f ≡ has_child name (read_content c) → ((o : Bool) → featured name o f ≡ featured name o (read_content c)) → InContent s at c end r → First s name f u
-      at_end f (bare y) end a b i = no_child_case e a b
-      at_end f (child y x c) end a b i = clash (sym i.found ∙ q)
+      at_end : (f : Forest) (c : Content) (end : Bytes) → has_child name f ≡ has_child name (read_content c) → ((o : Bool) → featured name o f ≡ featured name o (read_content c)) → InContent s at c end None → First s name f None
+      at_end f (bare y) end a b i = no_child_case refl a b
+      at_end f (child y x c) end a b i = absurd i
 
-      go : (f : Forest) → LeftOver s name f at → First s name f u
+      go : (f : Forest) → LeftOver s name f at → First s name f None
       go f l = at_end f l.content (spell_end l.end l.glue ++ l.rest) l.has l.features (in_content l.end l.glue l.rest l.content l.good l.stands p)
 
-  module _ (q : r.found ≡ true) where
-    not_bare : r ≡ no_child → ⊥
-    not_bare e = clash (sym q ∙ ap (λ (y : Child). y.found) e)
+  module _ {r : Child} (p : NextChild s at (Some r)) where
+    not_bare : Some r ≡ None → ⊥
+    not_bare e = cc
 
     -- the child that stands next
     here : (f : Filler) (x : Element) (c : Content) (end : Bytes) → GoodContent (DEPTH - 2) (child f x c) → drop at s ≡ spell_content (child f x c) ++ end → Next (drop at s) f x
@@ -128,44 +131,44 @@ module _ {s : Bytes} {inside : ℕ} {name : Bytes} {at : ℕ} {r : Child} (so_fa
           whole = e ∙ append_assoc (spell_filler f) (spell_element x ++ spell_content c) end ∙ ap (λ (y : Bytes). spell_filler f ++ y) (append_assoc (spell_element x) (spell_content c) end);
         }
 
-    parts : (f : Filler) (x : Element) (n : Next (drop at s) f x) → Parts s x r.from r.to r.inside n.rest
+    parts : (f : Filler) (x : Element) (n : Next (drop at s) f x) → Parts s x r.outline.from r.outline.to r.outline.inside n.rest
     parts f x n =
-        let t = p.found q in
+        let t = p.says in
         let (a, b, d) = next_one t.next n in
-        subst (λ (y : Element). Parts s y r.from r.to r.inside n.rest) b (subst (λ (y : Bytes). Parts s t.x r.from r.to r.inside y) d (child_parts t))
+        subst (λ (y : Element). Parts s y r.outline.from r.outline.to r.outline.inside n.rest) b (subst (λ (y : Bytes). Parts s t.x r.outline.from r.outline.to r.outline.inside y) d (child_parts t))
 
-    same_as : (x : Element) {rest : Bytes} {z : Bool} → Parts s x r.from r.to r.inside rest → z ≡ same name (take (r.to - r.from) (drop r.from s)) → same name (name_of (read_element x)) ≡ z
+    same_as : (x : Element) {rest : Bytes} {z : Bool} → Parts s x r.outline.from r.outline.to r.outline.inside rest → z ≡ same name (take (r.outline.to - r.outline.from) (drop r.outline.from s)) → same name (name_of (read_element x)) ≡ z
     same_as x a m = ap (same name) (named_so x ∙ sym a.name) ∙ sym m
 
     -- it has the name
-    pub search_finds : true ≡ same name (take (r.to - r.from) (drop r.from s)) → FirstIn s inside name (Some r.inside)
+    pub search_finds : true ≡ same name (take (r.outline.to - r.outline.from) (drop r.outline.from s)) → FirstIn s inside name (Some r.outline.inside)
     search_finds m = record { says = λ f h. go f (so_far.left f h) }
       where
-        at-child : (f : Forest) (c : Content) (end : Bytes) → GoodContent (DEPTH - 2) c → drop at s ≡ spell_content c ++ end → has_child name f ≡ has_child name (read_content c) → ((o : Bool) → featured name o f ≡ featured name o (read_content c)) → InContent s at c end r → First s name f (Some r.inside)
+        at-child : (f : Forest) (c : Content) (end : Bytes) → GoodContent (DEPTH - 2) c → drop at s ≡ spell_content c ++ end → has_child name f ≡ has_child name (read_content c) → ((o : Bool) → featured name o f ≡ featured name o (read_content c)) → InContent s at c end (Some r) → First s name f (Some r.outline.inside)
         at-child f (bare y) end k e a b i = absurd (not_bare i)
         at-child f (child y x c) end k e a b i =
             let n = here y x c end k e in
             let w = parts y x n in
             let j = same_as x w m in
             first_child
-            r.inside
+            r.outline.inside
             refl
             (a ∙ ap (λ (z : Bool). z || has_child name (read_content c)) j)
             (read_element x)
             (λ o. b o ∙ ap (λ (z : Bool). cond z (present (notes (children_of (read_element x)))) (featured name o (read_content c))) j)
             (children_stand s x n.rest n.element i.lines.behind w)
 
-        go : (f : Forest) → LeftOver s name f at → First s name f (Some r.inside)
+        go : (f : Forest) → LeftOver s name f at → First s name f (Some r.outline.inside)
         go f l = at-child f l.content (spell_end l.end l.glue ++ l.rest) l.good l.stands l.has l.features (in_content l.end l.glue l.rest l.content l.good l.stands p)
 
     -- it has another name
-    pub search_goes_on : false ≡ same name (take (r.to - r.from) (drop r.from s)) → Searched s inside name r.next
+    pub search_goes_on : false ≡ same name (take (r.outline.to - r.outline.from) (drop r.outline.from s)) → Searched s inside name r.next
     search_goes_on m = record { left = λ f h. go f (so_far.left f h) }
       where
         deeper : {f : Filler} {x : Element} {c : Content} → GoodContent (DEPTH - 2) (child f x c) → GoodContent (DEPTH - 2) c
         deeper (good_child h k m) = m
 
-        behind-child : (f : Forest) (c : Content) (n g rest : Bytes) → GoodContent (DEPTH - 2) c → drop at s ≡ spell_content c ++ (spell_end n g ++ rest) → has_child name f ≡ has_child name (read_content c) → ((o : Bool) → featured name o f ≡ featured name o (read_content c)) → InContent s at c (spell_end n g ++ rest) r → LeftOver s name f r.next
+        behind-child : (f : Forest) (c : Content) (n g rest : Bytes) → GoodContent (DEPTH - 2) c → drop at s ≡ spell_content c ++ (spell_end n g ++ rest) → has_child name f ≡ has_child name (read_content c) → ((o : Bool) → featured name o f ≡ featured name o (read_content c)) → InContent s at c (spell_end n g ++ rest) (Some r) → LeftOver s name f r.next
         behind-child f (bare y) n g rest k e a b i = absurd (not_bare i)
         behind-child f (child y x c) n g rest k e a b i =
             let j = same_as x (parts y x (here y x c (spell_end n g ++ rest) k e)) m in

@@ -13,12 +13,15 @@ use Rattle.grammar.specs.Element.{Element, empty, full, GoodElement, good_full, 
 use Rattle.grammar.specs.Answer.{Answers}
 use Rattle.grammar.specs.Places.{value_end, child_of as inner, tag_in, inside_from}
 use Rattle.tags.specs.Places.{places}
-use Rattle.reader.specs.Answer.{paper, Accepted, RestOf, Outlined}
+use Rattle.reader.specs.Answer.{unread, Accepted, Sketches, OutlineCase, Outlined}
 use Rattle.model.specs.Standing.{Parts, ContentAt}
 use Rattle.reader.proofs.Parts.{accepted_parts}
-use Rattle.reader.specs.declared.answer.Answer.{Answer}
-use Rattle.reader.specs.declared.answer.Answer.TheVariants.{Ends, More, Malformed, TooLong}
-use Rattle.reader.specs.declared.answer.Outline.{Outline}
+use Rattle.std.specs.Prelude.{Result, Ok, Err}
+use Rattle.reader.specs.declared.answer.Unread.{Unread}
+use Rattle.reader.specs.declared.answer.Sketch.{Sketch}
+use Rattle.reads.specs.Kept.{Sorts}
+use Rattle.reads.specs.Whole.{SketchSorts, OutlineSorts, OutlineIn}
+use Rattle.reads.specs.declared.features.Sort.{Sort}
 use Rattle.table.specs.Says.{children_of}
 use Rattle.reads.specs.Held.{Held}
 use Rattle.reads.specs.Children.{Holds, holds_none, holds}
@@ -85,22 +88,17 @@ module _ {s : Bytes} {start end from to count inside : ℕ} {old new : List ℕ}
       go (empty t) g b k = holds_none b refl
       go (full t c g) (good_full i j k) b m = holds (let z = length-append (spell_attributes t.attributes) (t.trail ++ text ">") in let y = length-append t.trail (text ">") in omega arith) c t.name g (accepted_parts a).0 j m refl
 
-module _ {s : Bytes} {old new : List ℕ} {o : Outline} (p : Outlined s old new o) where
-  pub accepted : {start end : ℕ} → o.answer ≡ Ends start end → Accepted s start end o.from o.to o.count o.inside old new
-  accepted e = subst (λ (a : Answer). RestOf s old new a o.from o.to o.count o.inside) e p.rest
+-- a message that is known
+pub known_sketch : {s : Bytes} {old new : List ℕ} {r : Result Sketch Unread} {o : Sketch} → r ≡ Ok o → Outlined s old new r → Sketches s old new o
+known_sketch {s} {old} {new} q p = subst (λ (r : Result Sketch Unread). OutlineCase s old new r) q p.says
 
-  pub answers : {a : Answer} → o.answer ≡ a → Answers s (paper a)
-  answers e = subst (λ (a : Answer). Answers s (paper a)) e p.answers
+pub known_unread : {s : Bytes} {old new : List ℕ} {r : Result Sketch Unread} {x : Unread} → r ≡ Err x → Outlined s old new r → Answers s (unread x)
+known_unread {s} {old} {new} q p = subst (λ (r : Result Sketch Unread). OutlineCase s old new r) q p.says
 
--- where the name of the root's child stands, or zeros
-outlined_name : (s : Bytes) (old new : List ℕ) (a : Answer) (from to count inside : ℕ) → RestOf s old new a from to count inside → (from ≤ to) × (to ≤ length s)
-outlined_name s old new (Ends start end) from to count inside r = (accepted_order r, accepted_in r)
-outlined_name s old new (More start) from to count inside r = let e = r.0 in let f = r.1 in (omega arith, omega arith)
-outlined_name s old new (Malformed start place) from to count inside r = let e = r.0 in let f = r.1 in (omega arith, omega arith)
-outlined_name s old new (TooLong start) from to count inside r = let e = r.0 in let f = r.1 in (omega arith, omega arith)
+-- where the name of the root's child stands
+pub outlined_in : {s : Bytes} {old new : List ℕ} (r : Result Sketch Unread) → Outlined s old new r → OutlineIn s r
+outlined_in (Ok o) p = record { within = (accepted_order p.says.accepted, accepted_in p.says.accepted) }
+outlined_in (Err x) p = record { within = tt }
 
-pub outlined_order : {s : Bytes} {old new : List ℕ} {o : Outline} → Outlined s old new o → o.from ≤ o.to
-outlined_order {s} {old} {new} {o} p = (outlined_name s old new o.answer o.from o.to o.count o.inside p.rest).0
-
-pub outlined_in : {s : Bytes} {old new : List ℕ} {o : Outline} → Outlined s old new o → o.to ≤ length s
-outlined_in {s} {old} {new} {o} p = (outlined_name s old new o.answer o.from o.to o.count o.inside p.rest).1
+pub known_sort : {s : Bytes} {r : Result Sketch Unread} {o : Sketch} {k : Sort} → r ≡ Ok o → OutlineSorts s r k → Sorts s o.child.from o.child.to o.child.inside k
+known_sort {s} {k = k} q p = subst (λ (r : Result Sketch Unread). SketchSorts s r k) q p.says

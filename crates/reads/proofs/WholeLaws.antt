@@ -10,9 +10,11 @@ use Rattle.grammar.specs.Tree.{Tree, tree}
 use Rattle.grammar.specs.Element.{read_attributes, read_element}
 use Rattle.grammar.specs.Message.{read_layout}
 use Rattle.grammar.specs.Places.{tag_in}
-use Rattle.reader.specs.Answer.{Accepted, Outlined}
-use Rattle.reader.specs.declared.answer.Answer.TheVariants.{Ends, More, Malformed, TooLong}
-use Rattle.reader.specs.declared.answer.Outline.{Outline}
+use Rattle.reader.specs.Answer.{unread, Accepted, Sketches}
+use Rattle.grammar.specs.Answer.{Answers}
+use Rattle.reader.specs.declared.answer.Unread.{Unread}
+use Rattle.reader.specs.declared.answer.Unread.TheVariants.{More, Malformed, TooLong}
+use Rattle.reader.specs.declared.answer.Sketch.{Sketch}
 use Rattle.table.specs.Table.{Row, kind_of, rows_of}
 use Rattle.table.specs.Theorems.{rows_table}
 use Rattle.table.specs.Says.{refusal_of, child_of, children_of, name_of, said_of}
@@ -20,10 +22,10 @@ use Rattle.message.specs.Checked.{place_of, places_in}
 use Rattle.message.specs.Cells.{cells_of}
 use Rattle.reads.specs.Held.{pairs, place}
 use Rattle.reads.specs.Kept.{kept_in, Sorts, AllRowed}
-use Rattle.reads.specs.Whole.{outcome_of, cells_in, CellsChecked, ends, more, malformed, too_long}
+use Rattle.reads.specs.Whole.{outcome_of, without_message, cells_in, CellsChecked, ends, more, malformed, too_long}
 use Rattle.reads.specs.declared.features.Sort.{Sort}
 use Rattle.reads.specs.declared.whole.Outcome.{Outcome}
-use Rattle.reads.proofs.OutlineLaws.{child, parts, accepted, answers, accepted_held, accepted_holds}
+use Rattle.reads.proofs.OutlineLaws.{child, parts, accepted_held, accepted_holds}
 use Rattle.message.proofs.HandedLaws.{read_inner, tree_of, name_of_lem}
 
 module _ {s : Bytes} {start end from to count inside : ℕ} {old new : List ℕ} (a : Accepted s start end from to count inside old new) (whole : length old ≡ 128) where
@@ -53,17 +55,12 @@ module _ {s : Bytes} {start end from to count inside : ℕ} {old new : List ℕ}
         ∙ ap (λ (k : ℕ). cells_of (kept_in (rows_of k) (place (accepted_held a whole)) (tree (take (to - from) (drop from s)) (pairs (accepted_held a whole)) (children_of (read_element (child a))))) ++ drop (3 * length (rows_of k)) before) e.kind
         ∙ as_read_lem (λ k p t. cells_of (kept_in (rows_of k) p t) ++ drop (3 * length (rows_of k)) before)
 
-module _ {s : Bytes} {old new : List ℕ} {o : Outline} (p : Outlined s old new o) where
-  pub cells_end : (start end : ℕ) {k : Sort} {refusal : ℕ} {before after : List ℕ} {r : Outcome} → length old ≡ 128 → o.answer ≡ Ends start end → Sorts s o.from o.to o.inside k → AllRowed s o.to new o.count k before after refusal → r ≡ outcome_of refusal k.kind start end 0 → CellsChecked s before after r
-  cells_end start end {k} whole e q t h =
-      let a = accepted p e in
-      ends start end (answers p e) a.layout a.laid (h ∙ ap (λ (n : ℕ). outcome_of n k.kind start end 0) (refusal_is a whole q t) ∙ ap (λ (k : ℕ). outcome_of (said_of (read_layout a.layout)).refusal k start end 0) (kind_is a whole q t)) (cells_are a whole q t)
+pub cells_end : {s : Bytes} {old new : List ℕ} {o : Sketch} → Sketches s old new o → {k : Sort} {refusal : ℕ} {before after : List ℕ} {r : Outcome} → length old ≡ 128 → Sorts s o.child.from o.child.to o.child.inside k → AllRowed s o.child.to new o.child.count k before after refusal → r ≡ outcome_of refusal k.kind o.start o.end 0 → CellsChecked s before after r
+cells_end {o = o} p {k} whole q t h =
+    let a = p.accepted in
+    ends o.start o.end p.answers a.layout a.laid (h ∙ ap (λ (n : ℕ). outcome_of n k.kind o.start o.end 0) (refusal_is a whole q t) ∙ ap (λ (k : ℕ). outcome_of (said_of (read_layout a.layout)).refusal k o.start o.end 0) (kind_is a whole q t)) (cells_are a whole q t)
 
-  pub cells_more : (start : ℕ) {before : List ℕ} {r : Outcome} → o.answer ≡ More start → r ≡ outcome_of 1 0 start 0 0 → CellsChecked s before before r
-  cells_more start e h = more start (answers p e) h refl
-
-  pub cells_malformed : (start place : ℕ) {before : List ℕ} {r : Outcome} → o.answer ≡ Malformed start place → r ≡ outcome_of 2 0 start 0 place → CellsChecked s before before r
-  cells_malformed start place e h = malformed start place (answers p e) h refl
-
-  pub cells_too_long : (start : ℕ) {before : List ℕ} {r : Outcome} → o.answer ≡ TooLong start → r ≡ outcome_of 3 0 start 0 0 → CellsChecked s before before r
-  cells_too_long start e h = too_long start (answers p e) h refl
+pub cells_unread : {s : Bytes} {before : List ℕ} {r : Outcome} (x : Unread) → Answers s (unread x) → r ≡ without_message x → CellsChecked s before before r
+cells_unread (More start) p h = more start p h refl
+cells_unread (Malformed start place) p h = malformed start place p h refl
+cells_unread (TooLong start) p h = too_long start p h refl

@@ -2,16 +2,15 @@
 ghost use Rattle.std.specs.Prelude.{◌≡◌, replicate};
 ghost use Rattle.message.specs.Cells.{NUMBERS as MANY};
 ghost use Rattle.message.specs.Checked.{Checks, ChecksInto};
-ghost use Rattle.reads.specs.Kept.{Sorts};
-ghost use Rattle.reads.specs.Whole.{Sketched};
+ghost use Rattle.reads.specs.Whole.{Sketched, OutlineSorts};
 
-use crate::features::{Sort, sort_of};
+use crate::features::{Sort, sort_outlined};
 use crate::ids::take_id;
 use crate::whole::{Outcome, tell};
 use cells::clear;
 use message::cells::NUMBERS;
 use message::{Checked, Found, Message};
-use reader::answer::Outline;
+use reader::answer::{Sketch, Unread};
 use tags::attributes::PLACES;
 
 fn told(o: Outcome, id: [u8; 36]) -> Found
@@ -32,15 +31,15 @@ fn told(o: Outcome, id: [u8; 36]) -> Found
 /// not needed at once.
 pub fn check_outlined(
     s: &[u8],
-    sketch: Outline,
+    outline: Result<Sketch, Unread>,
     sort: Sort,
     table: &[u16],
     cells: &mut [u64],
 ) -> Found
-    requires { (cells.old ≡ replicate MANY 0) × Sketched s.now table.now sketch × Sorts s.now sketch.from sketch.to sketch.inside sort }
+    requires { (cells.old ≡ replicate MANY 0) × Sketched s.now table.now outline × OutlineSorts s.now outline sort }
     ensures { ChecksInto s.now cells.new result }
 {
-    let o = tell(s, sketch, sort, table, &mut *cells);
+    let o = tell(s, outline, sort, table, &mut *cells);
     if o.refusal == 0 {
         let id = take_id(s, o.kind, &mut *cells);
         return told(o, id);
@@ -55,9 +54,9 @@ pub fn check_into(s: &[u8], cells: &mut [u64]) -> Found
     ensures { ChecksInto s.now cells.new result }
 {
     let mut table = [0u16; PLACES];
-    let o = reader::outline(s, &mut table);
-    let k = sort_of(s, o.from, o.to, o.inside);
-    check_outlined(s, o, k, &table, cells)
+    let outline = reader::outline(s, &mut table);
+    let sort = sort_outlined(s, outline);
+    check_outlined(s, outline, sort, &table, cells)
 }
 
 /// Reads the message behind the glue in front of s, and tries its attributes.

@@ -3,9 +3,11 @@ ghost use Rattle.std.specs.Prelude.{◌≡◌, ◌≤◌, ◌<◌, length};
 ghost use Rattle.rows.specs.Coding.{LINES, name_at};
 ghost use Rattle.reads.specs.Children.{FirstIn};
 ghost use Rattle.reads.specs.Kept.{NotesIn, Supports, Sorts};
+ghost use Rattle.reads.specs.Whole.{OutlineIn, OutlineSorts};
 
 use crate::copied::copied;
 use lane::Kind;
+use reader::answer::{Sketch, Unread};
 use rows::data::{NAMES, WIDTH, name_at};
 use rows::kind_named;
 use rows::same::same;
@@ -19,12 +21,10 @@ pub fn first_child(s: &[u8], inside: usize, name: &[u8]) -> Option<usize>
     }
     let mut at = inside;
     loop {
-        let child = reader::child(s, at);
-        if !child.found {
-            return None;
-        }
-        if same(name, &s[child.from..child.to]) {
-            return Some(child.inside);
+        let child = reader::child(s, at)?;
+        let outline = child.outline;
+        if same(name, &s[outline.from..outline.to]) {
+            return Some(outline.inside);
         }
         at = child.next;
     }
@@ -81,5 +81,19 @@ pub fn sort_of(s: &[u8], from: usize, to: usize, inside: usize) -> Sort
     Sort {
         kind,
         features: None,
+    }
+}
+
+/// The kind of the child of the message that an outline found in s, and its features; without a message kind 0.
+pub fn sort_outlined(s: &[u8], outline: Result<Sketch, Unread>) -> Sort
+    requires { OutlineIn s.now outline }
+    ensures { OutlineSorts s.now outline result }
+{
+    match outline {
+        Ok(o) => sort_of(s, o.child.from, o.child.to, o.child.inside),
+        Err(_) => Sort {
+            kind: 0,
+            features: None,
+        },
     }
 }

@@ -2,13 +2,12 @@
 ghost use Rattle.std.specs.Prelude.{◌≡◌, ◌≤◌, length};
 ghost use Rattle.message.specs.Cells.{NUMBERS as MOST};
 ghost use Rattle.refusals.specs.Numbers.{told};
-ghost use Rattle.reads.specs.Kept.{Sorts};
-ghost use Rattle.reads.specs.Whole.{outcome_of, Sketched, CellsChecked};
+ghost use Rattle.reads.specs.Whole.{outcome_of, without_message, Sketched, OutlineSorts, CellsChecked};
 
 use crate::attributes::Attributes;
-use crate::features::{Sort, sort_of};
+use crate::features::{Sort, sort_outlined};
 use crate::kind_rows::check_rows;
-use reader::answer::{Answer, Outline};
+use reader::answer::{Sketch, Unread};
 use refusals::{Refusal, told};
 use rows::data::{NAMES, NUMBERS};
 use tags::attributes::PLACES;
@@ -35,28 +34,42 @@ fn made(answer: Result<(), Refusal>, kind: u8, start: usize, end: usize, place: 
     }
 }
 
+// The answers without a message.
+fn unread(x: Unread) -> Outcome
+    ensures { result ≡ without_message x }
+{
+    match x {
+        Unread::More { start } => made(Err(Refusal::Incomplete), 0, start, 0, 0),
+        Unread::Malformed { start, place } => made(Err(Refusal::Malformed), 0, start, 0, place),
+        Unread::TooLong { start } => made(Err(Refusal::MessageTooLong), 0, start, 0, 0),
+    }
+}
+
 /// Puts down a cell for each row of the kind of the message that an outline found in s, with the places that it put into the table.
-pub fn tell(s: &[u8], o: Outline, sort: Sort, table: &[u16], cells: &mut [u64]) -> Outcome
-    requires { (MOST ≤ length cells.old) × Sketched s.now table.now o × Sorts s.now o.from o.to o.inside sort }
+pub fn tell(
+    s: &[u8],
+    outline: Result<Sketch, Unread>,
+    sort: Sort,
+    table: &[u16],
+    cells: &mut [u64],
+) -> Outcome
+    requires { (MOST ≤ length cells.old) × Sketched s.now table.now outline × OutlineSorts s.now outline sort }
     ensures { CellsChecked s.now cells.old cells.new result }
 {
-    let a = o.answer;
-    match a {
-        Answer::Ends { start, end } => {
+    match outline {
+        Ok(o) => {
             let attributes = Attributes {
                 message: s,
-                base: o.to,
+                base: o.child.to,
                 table,
-                count: o.count,
+                count: o.child.count,
             };
             let numbers = NUMBERS;
             let names = NAMES;
             let answer = check_rows(&attributes, sort, &numbers, &names, cells);
-            made(answer, sort.kind, start, end, 0)
+            made(answer, sort.kind, o.start, o.end, 0)
         }
-        Answer::More { start } => made(Err(Refusal::Incomplete), 0, start, 0, 0),
-        Answer::Malformed { start, place } => made(Err(Refusal::Malformed), 0, start, 0, place),
-        Answer::TooLong { start } => made(Err(Refusal::MessageTooLong), 0, start, 0, 0),
+        Err(x) => unread(x),
     }
 }
 
@@ -66,7 +79,7 @@ pub fn check_cells(s: &[u8], cells: &mut [u64]) -> Outcome
     ensures { CellsChecked s.now cells.old cells.new result }
 {
     let mut table = [0u16; PLACES];
-    let o = reader::outline(s, &mut table);
-    let k = sort_of(s, o.from, o.to, o.inside);
-    tell(s, o, k, &table, cells)
+    let outline = reader::outline(s, &mut table);
+    let sort = sort_outlined(s, outline);
+    tell(s, outline, sort, &table, cells)
 }

@@ -2,29 +2,28 @@
 use mathlib.Core.Path.{refl}
 use Rattle.table.specs.Table.{table}
 use Rattle.rows.specs.Coding.{numbers, names}
-use Rattle.reads.proofs.OutlineLaws.{accepted, accepted_held, outlined_order, outlined_in}
+use Rattle.reads.proofs.OutlineLaws.{known_sketch, accepted_order, accepted_in, accepted_held}
 use Rattle.decides.proofs.DecideLaws.{decides_end, decides_more, decides_malformed, decides_too_long}
 use Rattle.decides.proofs.decided.Goals as goal
 
--- Each answer by the outline.
 pub sort_of-sort-requires : goal.sort_of-sort-requires
-sort_of-sort-requires c = (outlined_order c.outline-o.ensures, outlined_in c.outline-o.ensures)
+sort_of-sort-requires c = let a = (known_sketch c.in-Ok.is c.outline.ensures).accepted in (accepted_order a, accepted_in a)
 
 pub invariant_of-attributes : goal.invariant_of-attributes
-invariant_of-attributes c = record { held = ∣ accepted_held (accepted c.outline-o.ensures c.in-Ends.is) refl ∣₁ }
+invariant_of-attributes c = record { held = ∣ accepted_held (known_sketch c.in-Ok.is c.outline.ensures).accepted refl ∣₁ }
 
 pub rule-requires : goal.rule-requires
 unfolding numbers names table
 rule-requires c = (refl, refl)
 
-pub returns-in-Ends : goal.returns-in-Ends
-returns-in-Ends c = decides_end c.outline-o.ensures c.in-Ends.start c.in-Ends.end refl c.in-Ends.is c.sort_of-sort.ensures c.rule.ensures c.made.ensures
+pub returns-in-Ok : goal.returns-in-Ok
+returns-in-Ok c = decides_end (known_sketch c.in-Ok.is c.outline.ensures) refl c.sort_of-sort.ensures c.rule.ensures c.made.ensures
 
-pub returns-in-More : goal.returns-in-More
-returns-in-More c = decides_more c.outline-o.ensures c.in-More.start c.in-More.is c.unread.ensures
+pub returns-in-Err-More : goal.returns-in-Err-More
+returns-in-Err-More c = decides_more (rw c.in-Err-More.field-0-is at c.in-Err-More.ensures) c.unread.ensures
 
-pub returns-in-Malformed : goal.returns-in-Malformed
-returns-in-Malformed c = decides_malformed c.outline-o.ensures c.in-Malformed.start c.in-Malformed.place c.in-Malformed.is c.unread-in-Malformed.ensures
+pub returns-in-Err-Malformed : goal.returns-in-Err-Malformed
+returns-in-Err-Malformed c = decides_malformed (rw c.in-Err-Malformed.field-0-is at c.in-Err-Malformed.ensures) c.unread-in-Err-Malformed.ensures
 
-pub returns-in-TooLong : goal.returns-in-TooLong
-returns-in-TooLong c = decides_too_long c.outline-o.ensures c.in-TooLong.start c.in-TooLong.is c.unread-in-TooLong.ensures
+pub returns-in-Err-TooLong : goal.returns-in-Err-TooLong
+returns-in-Err-TooLong c = decides_too_long (rw c.in-Err-TooLong.field-0-is at c.in-Err-TooLong.ensures) c.unread-in-Err-TooLong.ensures

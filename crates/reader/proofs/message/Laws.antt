@@ -39,7 +39,7 @@ use Rattle.grammar.specs.Places.{inner_of, child_of, tag_in, root_lead, lead, in
 use Rattle.reader.specs.Message.{itself, none, Drawn, InnerRead, InnerCase, GotInner, inside_p, GotInside, declared_p, declared_lead}
 use Rattle.tags.specs.declared.attributes.Tag.{Tag}
 use Rattle.reader.specs.declared.elements.Start.{Start}
-use Rattle.reader.specs.declared.message.Inner.{Inner}
+use Rattle.reader.specs.declared.answer.Child.{Child}
 use Rattle.reader.proofs.elements.Chains.{elem_bind}
 use Rattle.reader.proofs.elements.Laws.{element_fails, element_empty, element_full}
 use Rattle.reader.proofs.message.Chains.{root_bind, after_p, layout_bind, after_open, after_declared, after_plain, both_done}
@@ -100,8 +100,8 @@ root_started s at e h l k q =
     go false y x = y
 
 -- an element that is known
-pub known_inner : {A : Type 0} {child : A → Element} {before : A → Bytes} {s : Bytes} {at : ℕ} {old new : List ℕ} {r : Result Inner Stop} {o : Out A} {c : Inner} → r ≡ Ok c → GotInner child before s at old new r o → InnerRead child before s at old new c o
-known_inner {child = child} {before = before} {s = s} {at = at} {old = old} {new = new} {o = o} q g = subst (λ (r : Result Inner Stop). InnerCase child before s at old new r o) q g.says
+pub known_inner : {A : Type 0} {child : A → Element} {before : A → Bytes} {s : Bytes} {at : ℕ} {old new : List ℕ} {r : Result Child Stop} {o : Out A} {c : Child} → r ≡ Ok c → GotInner child before s at old new r o → InnerRead child before s at old new c o
+known_inner {child = child} {before = before} {s = s} {at = at} {old = old} {new = new} {o = o} q g = subst (λ (r : Result Child Stop). InnerCase child before s at old new r o) q g.says
 
 itself_chained : {A : Type 0} (o : Out A) → o ≡ chained o (λ v u. done v u)
 unfolding chained
@@ -148,7 +148,7 @@ module _ (d : ℕ) (s : Bytes) (at : ℕ) (old new : List ℕ) where
         let e = name_ends in
         record { lines = record { starts = omega arith; ends = rw q e; counts = rw q g.count; behind = z }; table = rw q g.table }
 
-    pub child_empty : t.tag.empty ≡ true → GotInner itself none s at old new (Ok (record { from = at; to = t.to; count = t.tag.count; inside = 0; end = t.tag.end })) (elem_p (content_p d) (drop at s))
+    pub child_empty : t.tag.empty ≡ true → GotInner itself none s at old new (Ok (record { outline = record { from = at; to = t.to; count = t.tag.count; inside = 0 }; next = t.tag.end })) (elem_p (content_p d) (drop at s))
     unfolding n h
     child_empty z = record {
       says = record {
@@ -176,7 +176,7 @@ module _ (d : ℕ) (s : Bytes) (at : ℕ) (old new : List ℕ) where
       behind = head_there true s t.to t.tag.end h g.far g.room g.head no
 
       pub child-full : {e : ℕ} → Got 1 s t.tag.end (Ok e) (content_p d (take (t.to - at) (drop at s)) (drop t.tag.end s))
-          → GotInner itself none s at old new (Ok (record { from = at; to = t.to; count = t.tag.count; inside = t.tag.end; end = e })) (elem_p (content_p d) (drop at s))
+          → GotInner itself none s at old new (Ok (record { outline = record { from = at; to = t.to; count = t.tag.count; inside = t.tag.end }; next = e })) (elem_p (content_p d) (drop at s))
       unfolding n h
       child-full {e} c =
           let c' : Got 1 s t.tag.end (Ok e) (content_p d n (drop t.tag.end s)) = subst (λ (y : Bytes). Got 1 s t.tag.end (Ok e) (content_p d y (drop t.tag.end s))) (sym g.name) c in
@@ -197,12 +197,12 @@ module _ (n s : Bytes) (at : ℕ) (old new : List ℕ) where
   unfolding inside_p
   inside_child_fails {x} g = record { says = λ h b. record { says = stops s at (elem_p (content_p (DEPTH - 2)) (drop at s)) x g.says at (omega arith) _ refl } }
 
-  module _ (c : Inner) (g₁ : InnerRead itself none s at old new c (elem_p (content_p (DEPTH - 2)) (drop at s))) where
-    pub inside_filler_fails : {x : Stop} → GotFiller in_root s c.end (Err x) → GotInside n s at old new (Err x)
+  module _ (c : Child) (g₁ : InnerRead itself none s at old new c (elem_p (content_p (DEPTH - 2)) (drop at s))) where
+    pub inside_filler_fails : {x : Stop} → GotFiller in_root s c.next (Err x) → GotInside n s at old new (Err x)
     unfolding inside_p
     inside_filler_fails g = record { says = λ h b. inner_fails inner_of none s at old new (pass g.says 1 at (let l = g₁.far in omega arith) _ (then_done _ g₁.reads)) }
 
-    module _ (i : ℕ) (g₂ : Got 1 s c.end (Ok i) (fill_tok in_root (drop c.end s))) where
+    module _ (i : ℕ) (g₂ : Got 1 s c.next (Ok i) (fill_tok in_root (drop c.next s))) where
       inside_so : (h : Head) (b : Filler) → inside_p n h b (drop at s) ≡ chained (end_tag_p n (drop i s)) (λ y z. done (mk_root h b g₁.value g₂.says.0 y) z)
       unfolding inside_p
       inside_so h b = then_done _ g₁.reads ∙ then_done _ g₂.says.3
@@ -213,7 +213,7 @@ module _ (n s : Bytes) (at : ℕ) (old new : List ℕ) where
       pub inside-end-fails : {x : Stop} → Got 1 s i (Err x) (end_tag_p n (drop i s)) → GotInside n s at old new (Err x)
       inside-end-fails g = record { says = λ h b. inner_fails inner_of none s at old new (inside_all g h b) }
 
-      pub inside-read : {e : ℕ} → Got 1 s i (Ok e) (end_tag_p n (drop i s)) → GotInside n s at old new (Ok (record { from = c.from; to = c.to; count = c.count; inside = c.inside; end = e }))
+      pub inside-read : {e : ℕ} → Got 1 s i (Ok e) (end_tag_p n (drop i s)) → GotInside n s at old new (Ok (record { outline = c.outline; next = e }))
       inside-read {e} g = record {
         says = λ h b. record {
           says = record {
@@ -278,13 +278,13 @@ module _ (s : Bytes) (at : ℕ) where
         root_further : at ≤ i
         root_further = let l = g₁.says.1 in let m = g₂.far in let k = g₃.says.1 in omega arith
 
-        pub root-read : {old new : List ℕ} {r : Result Inner Stop} → GotInside hermes s i old new r → GotInner inner_of root_lead s at old new r (root_p (drop at s))
+        pub root-read : {old new : List ℕ} {r : Result Child Stop} → GotInside hermes s i old new r → GotInner inner_of root_lead s at old new r (root_p (drop at s))
         root-read {old} {new} {r} g = record { says = go r (g.says hd fl).says }
           where
-            go : (r : Result Inner Stop) → InnerCase inner_of none s i old new r (inside_p hermes hd fl (drop i s)) → InnerCase inner_of root_lead s at old new r (root_p (drop at s))
+            go : (r : Result Child Stop) → InnerCase inner_of none s i old new r (inside_p hermes hd fl (drop i s)) → InnerCase inner_of root_lead s at old new r (root_p (drop at s))
             go (Err x) q = stops s i (inside_p hermes hd fl (drop i s)) x q at root_further (λ v u. done v u) (root_so ∙ itself_chained (inside_p hermes hd fl (drop i s)))
             go (Ok c) q =
-                let (x, f', b, k) = inside_made hermes hd fl (drop i s) q.value (drop c.end s) q.reads in
+                let (x, f', b, k) = inside_made hermes hd fl (drop i s) q.value (drop c.next s) q.reads in
                 let p : i + 0 ≡ at + length (root_lead q.value) = subst (λ (v : Root). i + 0 ≡ at + length (root_lead v)) k (place x f' b) in
                 let l = root_further in
                 let m = q.far in
@@ -293,7 +293,7 @@ module _ (s : Bytes) (at : ℕ) where
                   far = omega arith;
                   upto = q.upto;
                   reads = root_so ∙ q.reads;
-                  drawn = subst (λ (m : ℕ). Drawn s m q.value.inner c.from c.to c.count c.inside old new) p q.drawn;
+                  drawn = subst (λ (m : ℕ). Drawn s m q.value.inner c.outline.from c.outline.to c.outline.count c.outline.inside old new) p q.drawn;
                 }
 
   -- a declaration, filler and the root
@@ -317,7 +317,7 @@ module _ (s : Bytes) (at : ℕ) where
           let n : length (declared_lead (declared g₁.says.0 g₂.says.0 x)) ≡ length w + length y = ap length q ∙ length-append w y in
           omega (arith, length-append (spell_filler g₂.says.0) (code "<" ∷ root_lead x))
 
-      pub declared-read : {old new : List ℕ} {r : Result Inner Stop} → GotInner inner_of root_lead s b old new r (root_p (drop b s)) → GotInner child_of declared_lead s at old new r (declared_p (drop at s))
+      pub declared-read : {old new : List ℕ} {r : Result Child Stop} → GotInner inner_of root_lead s b old new r (root_p (drop b s)) → GotInner child_of declared_lead s at old new r (declared_p (drop at s))
       unfolding declared_p
       declared-read {old} {new} {r} g = record { says = go r g.says }
         where
@@ -327,14 +327,14 @@ module _ (s : Bytes) (at : ℕ) where
           further : at ≤ b
           further = let l = g₁.says.1 in let m = g₂.says.1 in omega arith
 
-          go : (r : Result Inner Stop) → InnerCase inner_of root_lead s b old new r (root_p (drop b s)) → InnerCase child_of declared_lead s at old new r (declared_p (drop at s))
+          go : (r : Result Child Stop) → InnerCase inner_of root_lead s b old new r (root_p (drop b s)) → InnerCase child_of declared_lead s at old new r (declared_p (drop at s))
           go (Err x) q = stops s b (root_p (drop b s)) x q at further (λ x w. done (declared g₁.says.0 g₂.says.0 x) w) so
           go (Ok c) q = let l = further in let m = q.far in record {
             value = declared g₁.says.0 g₂.says.0 q.value;
             far = omega arith;
             upto = q.upto;
             reads = so ∙ then_done _ q.reads;
-            drawn = subst (λ (m : ℕ). Drawn s m q.value.inner c.from c.to c.count c.inside old new) (declared-place q.value) q.drawn;
+            drawn = subst (λ (m : ℕ). Drawn s m q.value.inner c.outline.from c.outline.to c.outline.count c.outline.inside old new) (declared-place q.value) q.drawn;
           }
 
 -- the message
@@ -357,7 +357,7 @@ module _ (s : Bytes) (at : ℕ) where
       message_further : at ≤ a
       message_further = let l = g₁.says.1 in omega arith
 
-      pub message-declared : {old new : List ℕ} {r : Result Inner Stop} → get_or s a 0 ≡ 63 → GotInner child_of declared_lead s (a + 1) old new r (declared_p (drop (a + 1) s)) → GotInner child_of lead s at old new r (layout_p (drop at s))
+      pub message-declared : {old new : List ℕ} {r : Result Child Stop} → get_or s a 0 ≡ 63 → GotInner child_of declared_lead s (a + 1) old new r (declared_p (drop (a + 1) s)) → GotInner child_of lead s at old new r (layout_p (drop at s))
       message-declared {old} {new} {r} e g = record { says = go r g.says }
         where
           so : layout_p (drop at s) ≡ declared_p (drop (a + 1) s)
@@ -366,17 +366,17 @@ module _ (s : Bytes) (at : ℕ) where
           place : (v : Layout) → a + 1 + length (declared_lead v) ≡ at + length (lead v)
           place v = let i = byte_there 60 s at a g₁ in let j = lead_two v in omega arith
 
-          go : (r : Result Inner Stop) → InnerCase child_of declared_lead s (a + 1) old new r (declared_p (drop (a + 1) s)) → InnerCase child_of lead s at old new r (layout_p (drop at s))
+          go : (r : Result Child Stop) → InnerCase child_of declared_lead s (a + 1) old new r (declared_p (drop (a + 1) s)) → InnerCase child_of lead s at old new r (layout_p (drop at s))
           go (Err x) q = stops s (a + 1) (declared_p (drop (a + 1) s)) x q at (let l = message_further in omega arith) (λ v u. done v u) (so ∙ itself_chained (declared_p (drop (a + 1) s)))
           go (Ok c) q = let l = message_further in let m = q.far in record {
             value = q.value;
             far = omega arith;
             upto = q.upto;
             reads = so ∙ q.reads;
-            drawn = subst (λ (m : ℕ). Drawn s m (child_of q.value) c.from c.to c.count c.inside old new) (place q.value) q.drawn;
+            drawn = subst (λ (m : ℕ). Drawn s m (child_of q.value) c.outline.from c.outline.to c.outline.count c.outline.inside old new) (place q.value) q.drawn;
           }
 
-      pub message-plain : {old new : List ℕ} {r : Result Inner Stop} → (get_or s a 0 ≡ 63 → ⊥) → GotInner inner_of root_lead s a old new r (root_p (drop a s)) → GotInner child_of lead s at old new r (layout_p (drop at s))
+      pub message-plain : {old new : List ℕ} {r : Result Child Stop} → (get_or s a 0 ≡ 63 → ⊥) → GotInner inner_of root_lead s a old new r (root_p (drop a s)) → GotInner child_of lead s at old new r (layout_p (drop at s))
       message-plain {old} {new} {r} ne g = record { says = go r g.says }
         where
           so : layout_p (drop at s) ≡ chained (root_p (drop a s)) (λ x w. done (plain x) w)
@@ -387,12 +387,12 @@ module _ (s : Bytes) (at : ℕ) where
           place : (x : Root) → a + length (root_lead x) ≡ at + length (lead (plain x))
           place x = let i = byte_there 60 s at a g₁ in omega arith
 
-          go : (r : Result Inner Stop) → InnerCase inner_of root_lead s a old new r (root_p (drop a s)) → InnerCase child_of lead s at old new r (layout_p (drop at s))
+          go : (r : Result Child Stop) → InnerCase inner_of root_lead s a old new r (root_p (drop a s)) → InnerCase child_of lead s at old new r (layout_p (drop at s))
           go (Err x) q = stops s a (root_p (drop a s)) x q at message_further (λ x w. done (plain x) w) so
           go (Ok c) q = let l = message_further in let m = q.far in record {
             value = plain q.value;
             far = omega arith;
             upto = q.upto;
             reads = so ∙ then_done _ q.reads;
-            drawn = subst (λ (m : ℕ). Drawn s m q.value.inner c.from c.to c.count c.inside old new) (place q.value) q.drawn;
+            drawn = subst (λ (m : ℕ). Drawn s m q.value.inner c.outline.from c.outline.to c.outline.count c.outline.inside old new) (place q.value) q.drawn;
           }

@@ -11,13 +11,13 @@ pub message-requires : goal.message-requires
 message-requires c = starts_in _ _ _ c.skip_glue-start.ensures c.window-n.ensures
 
 pub returns-then-n-lt-MESSAGE : goal.returns-then-n-lt-MESSAGE
-returns-then-n-lt-MESSAGE c = outline_more _ _ _ c.skip_glue-start.ensures c.window-n.ensures _ _ _ (rw c.in-Err-Open.field-0-is at c.in-Err-Open.ensures) c.unread.ensures c.if-n-lt-MESSAGE.true
+returns-then-n-lt-MESSAGE c = outline_more _ _ _ c.skip_glue-start.ensures c.window-n.ensures _ _ (rw c.in-Err-Open.field-0-is at c.in-Err-Open.ensures) c.if-n-lt-MESSAGE.true
 
 pub returns-in-Ok : goal.returns-in-Ok
 returns-in-Ok c = outline_ends _ _ _ c.skip_glue-start.ensures c.window-n.ensures _ _ _ (known_inner c.in-Ok.is c.message.ensures)
 
 pub returns-else-n-lt-MESSAGE : goal.returns-else-n-lt-MESSAGE
-returns-else-n-lt-MESSAGE c = outline_long _ _ _ c.skip_glue-start.ensures c.window-n.ensures _ _ _ (rw c.in-Err-Open.field-0-is at c.in-Err-Open.ensures) c.unread-in-Err-Open.ensures c.if-n-lt-MESSAGE.false
+returns-else-n-lt-MESSAGE c = outline_long _ _ _ c.skip_glue-start.ensures c.window-n.ensures _ _ (rw c.in-Err-Open.field-0-is at c.in-Err-Open.ensures) c.if-n-lt-MESSAGE.false
 
 pub returns-in-Err-Bad : goal.returns-in-Err-Bad
-returns-in-Err-Bad c = outline_bad _ _ _ c.skip_glue-start.ensures c.window-n.ensures _ _ _ (rw c.in-Err-Bad.field-0-is at c.in-Err-Bad.ensures) c.unread-in-Err-Bad.ensures
+returns-in-Err-Bad c = outline_bad _ _ _ c.skip_glue-start.ensures c.window-n.ensures _ _ (rw c.in-Err-Bad.field-0-is at c.in-Err-Bad.ensures)

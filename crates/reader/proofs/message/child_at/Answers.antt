@@ -14,8 +14,8 @@ returns-then-t c = child_empty _ _ _ _ _ _ (known_start c.in_ok-t.was c.start_ta
 pub content-requires : goal.content-requires
 content-requires c = let g = known_start c.in_ok-t.was c.start_tag.ensures in omega arith
 
-pub returns-in_err-end : goal.returns-in_err-end
-returns-in_err-end c = rw (exits c.from_residual-in_err-end.ensures.1) (child-content-fails _ _ _ _ _ _ (known_start c.in_ok-t.was c.start_tag.ensures) c.if-t.false c.in_err-end.ensures)
+pub returns-in_err-next : goal.returns-in_err-next
+returns-in_err-next c = rw (exits c.from_residual-in_err-next.ensures.1) (child-content-fails _ _ _ _ _ _ (known_start c.in_ok-t.was c.start_tag.ensures) c.if-t.false c.in_err-next.ensures)
 
 pub returns : goal.returns
-returns c = child-full _ _ _ _ _ _ (known_start c.in_ok-t.was c.start_tag.ensures) c.if-t.false (known c.in_ok-end.was c.content.ensures)
+returns c = child-full _ _ _ _ _ _ (known_start c.in_ok-t.was c.start_tag.ensures) c.if-t.false (known c.in_ok-next.was c.content.ensures)

@@ -17,8 +17,8 @@ returns-in_err-i c = rw (exits c.from_residual-in_err-i.ensures.1) (inside_fille
 pub end_tag-requires : goal.end_tag-requires
 end_tag-requires c = let g = known_filler c.in_ok-i.was c.filler_lt.ensures in omega arith
 
-pub returns-in_err-end : goal.returns-in_err-end
-returns-in_err-end c = rw (exits c.from_residual-in_err-end.ensures.1) (inside-end-fails _ _ _ _ _ _ (known_inner c.in_ok-child.was c.child_at.ensures) _ (known_filler c.in_ok-i.was c.filler_lt.ensures) c.in_err-end.ensures)
+pub returns-in_err-next : goal.returns-in_err-next
+returns-in_err-next c = rw (exits c.from_residual-in_err-next.ensures.1) (inside-end-fails _ _ _ _ _ _ (known_inner c.in_ok-child.was c.child_at.ensures) _ (known_filler c.in_ok-i.was c.filler_lt.ensures) c.in_err-next.ensures)
 
 pub returns : goal.returns
-returns c = inside-read _ _ _ _ _ _ (known_inner c.in_ok-child.was c.child_at.ensures) _ (known_filler c.in_ok-i.was c.filler_lt.ensures) (known c.in_ok-end.was c.end_tag.ensures)
+returns c = inside-read _ _ _ _ _ _ (known_inner c.in_ok-child.was c.child_at.ensures) _ (known_filler c.in_ok-i.was c.filler_lt.ensures) (known c.in_ok-next.was c.end_tag.ensures)

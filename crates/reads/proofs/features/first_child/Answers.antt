@@ -1,8 +1,7 @@
 -- The invariant: what is left of the content says what all of it says.
 use mathlib.Core.Path.{refl, sym, ◌∙◌}
 use native.Mathlib.Omega.{arith}
-use borrow.Author.Tests.{not-true, not-false}
-use Rattle.reads.proofs.ChildLaws.{found_ahead, none_inside, search_starts, search_ends, search_finds, search_goes_on}
+use Rattle.reads.proofs.ChildLaws.{known_child, found_ahead, none_inside, search_starts, search_ends, search_finds, search_goes_on}
 use Rattle.reads.proofs.features.first_child.Goals as goal
 
 pub returns-then-inside-eq0 : goal.returns-then-inside-eq0
@@ -12,22 +11,22 @@ pub loop-child-init : goal.loop-child-init
 loop-child-init c = search_starts c.args.s.now c.args.inside c.args.name.now c.if-inside-eq0.false
 
 pub slice_bounds-same-count : goal.slice_bounds-same-count
-slice_bounds-same-count c = (found_ahead c.child-child.ensures (not-false _ c.if-not-child.false)).ordered
+slice_bounds-same-count c = (found_ahead (known_child c.in_ok-child.was c.child.ensures)).ordered
 
 pub slice_bounds-same-start : goal.slice_bounds-same-start
-slice_bounds-same-start c = let a = found_ahead c.child-child.ensures (not-false _ c.if-not-child.false) in let o = a.ordered in let w = a.within in omega arith
+slice_bounds-same-start c = let a = found_ahead (known_child c.in_ok-child.was c.child.ensures) in let o = a.ordered in let w = a.within in omega arith
 
 pub slice_bounds-same-end : goal.slice_bounds-same-end
-slice_bounds-same-end c = let a = found_ahead c.child-child.ensures (not-false _ c.if-not-child.false) in let o = a.ordered in let w = a.within in omega arith
+slice_bounds-same-end c = let a = found_ahead (known_child c.in_ok-child.was c.child.ensures) in let o = a.ordered in let w = a.within in omega arith
 
 pub returns-then-same : goal.returns-then-same
-returns-then-same c = search_finds c.loop-child.invariant c.child-child.ensures (not-false _ c.if-not-child.false) (sym c.if-same.true ∙ c.same.ensures)
+returns-then-same c = search_finds c.loop-child.invariant (known_child c.in_ok-child.was c.child.ensures) (sym c.if-same.true ∙ c.same.ensures)
 
 pub loop-child-smaller : goal.loop-child-smaller
-loop-child-smaller c = let a = found_ahead c.child-child.ensures (not-false _ c.if-not-child.false) in let o = a.on in let u = a.upto in omega arith
+loop-child-smaller c = let a = found_ahead (known_child c.in_ok-child.was c.child.ensures) in let o = a.on in let u = a.upto in omega arith
 
 pub loop-child-preserved : goal.loop-child-preserved
-loop-child-preserved c = search_goes_on c.loop-child.invariant c.child-child.ensures (not-false _ c.if-not-child.false) (sym c.if-same.false ∙ c.same.ensures)
+loop-child-preserved c = search_goes_on c.loop-child.invariant (known_child c.in_ok-child.was c.child.ensures) (sym c.if-same.false ∙ c.same.ensures)
 
-pub returns-then-not-child : goal.returns-then-not-child
-returns-then-not-child c = search_ends c.loop-child.invariant c.child-child.ensures (not-true _ c.if-not-child.true) refl
+pub returns-in_err-child : goal.returns-in_err-child
+returns-in_err-child c = rw c.from_residual.ensures (search_ends c.loop-child.invariant c.in_err-child.ensures)

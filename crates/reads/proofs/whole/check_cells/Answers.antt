@@ -1,14 +1,13 @@
 -- The outline, the kind, and then what they found.
 use mathlib.Core.Path.{refl}
-use Rattle.reads.proofs.OutlineLaws.{outlined_order, outlined_in}
+use Rattle.reads.proofs.OutlineLaws.{outlined_in}
 use Rattle.reads.proofs.whole.check_cells.Goals as goal
 
--- The outline, the kind, and then what they found.
-pub sort_of-k-requires : goal.sort_of-k-requires
-sort_of-k-requires c = (outlined_order c.outline-o.ensures, outlined_in c.outline-o.ensures)
+pub sort_outlined-sort-requires : goal.sort_outlined-sort-requires
+sort_outlined-sort-requires c = outlined_in _ c.outline-outline.ensures
 
 pub tell-requires : goal.tell-requires
-tell-requires c = (c.requires, record { before = _; whole = refl; outlined = c.outline-o.ensures }, c.sort_of-k.ensures)
+tell-requires c = (c.requires, record { before = _; whole = refl; outlined = c.outline-outline.ensures }, c.sort_outlined-sort.ensures)
 
 pub returns : goal.returns
 returns c = c.tell.ensures

@@ -2,26 +2,19 @@
 use mathlib.Core.Path.{refl}
 use Rattle.table.specs.Table.{table}
 use Rattle.rows.specs.Coding.{numbers, names}
-use Rattle.reads.proofs.OutlineLaws.{accepted, accepted_held}
-use Rattle.reads.proofs.WholeLaws.{cells_end, cells_more, cells_malformed, cells_too_long}
+use Rattle.reads.proofs.OutlineLaws.{known_sketch, known_unread, known_sort, accepted_held}
+use Rattle.reads.proofs.WholeLaws.{cells_end, cells_unread}
 use Rattle.reads.proofs.whole.tell.Goals as goal
 
--- Each answer by the outline.
 pub invariant_of-attributes : goal.invariant_of-attributes
-invariant_of-attributes c = record { held = ∣ accepted_held (accepted c.requires.1.outlined c.in-Ends.is) c.requires.1.whole ∣₁ }
+invariant_of-attributes c = record { held = ∣ accepted_held (known_sketch c.in-Ok.is c.requires.1.outlined).accepted c.requires.1.whole ∣₁ }
 
 pub check_rows-answer-requires : goal.check_rows-answer-requires
 unfolding numbers names table
 check_rows-answer-requires c = (refl, refl, c.requires.0)
 
-pub returns-in-Ends : goal.returns-in-Ends
-returns-in-Ends c = cells_end c.requires.1.outlined c.in-Ends.start c.in-Ends.end c.requires.1.whole c.in-Ends.is c.requires.2 c.check_rows-answer.ensures c.made.ensures
+pub returns-in-Ok : goal.returns-in-Ok
+returns-in-Ok c = cells_end (known_sketch c.in-Ok.is c.requires.1.outlined) c.requires.1.whole (known_sort c.in-Ok.is c.requires.2) c.check_rows-answer.ensures c.made.ensures
 
-pub returns-in-More : goal.returns-in-More
-returns-in-More c = cells_more c.requires.1.outlined c.in-More.start c.in-More.is c.made-in-More.ensures
-
-pub returns-in-Malformed : goal.returns-in-Malformed
-returns-in-Malformed c = cells_malformed c.requires.1.outlined c.in-Malformed.start c.in-Malformed.place c.in-Malformed.is c.made-in-Malformed.ensures
-
-pub returns-in-TooLong : goal.returns-in-TooLong
-returns-in-TooLong c = cells_too_long c.requires.1.outlined c.in-TooLong.start c.in-TooLong.is c.made-in-TooLong.ensures
+pub returns-in-Err : goal.returns-in-Err
+returns-in-Err c = cells_unread _ (known_unread c.in-Err.is c.requires.1.outlined) c.unread.ensures
