@@ -6,9 +6,3 @@ use Rattle.reads.proofs.whole.check_cells.Goals as goal
 -- The outline, the kind, and then what they found.
 pub sort_of-k-requires : goal.sort_of-k-requires
 sort_of-k-requires c = (outlined_order c.outline-o.ensures, outlined_in c.outline-o.ensures)
-
-pub tell-requires : goal.tell-requires
-tell-requires c = (c.requires, record { before = _; whole = refl; outlined = c.outline-o.ensures }, c.sort_of-k.ensures)
-
-pub returns : goal.returns
-returns c = c.tell.ensures
