@@ -204,14 +204,21 @@ pub placed_at : {s : Bytes} {base : ℕ} {table : List ℕ} {count i : ℕ} → 
 placed_at {s} {base} {table} {count} {i} h lt = let z : 0 + i ≡ i = omega arith in subst (PlacedAt s base table) z (placed_from s base table i 0 0 h.attributes h.after h.rest h.good (ap (λ (n : ℕ). drop n s) (add-zero base) ∙ h.stand) h.rows (let c = h.counts in omega arith))
 
 -- so where the attributes are only known to stand there
-pub stands_at : {s : Bytes} {base : ℕ} {table : List ℕ} {count i : ℕ} → ∥ Held s base table count ∥₁ → i < count → PlacedAt s base table i
-stands_at t lt = record {
-  long = ∥∥₁_elim t le_prop (λ h. (placed_at h lt).long);
-  name_order = ∥∥₁_elim t le_prop (λ h. (placed_at h lt).name_order);
-  name_in_lem = ∥∥₁_elim t le_prop (λ h. (placed_at h lt).name_in_lem);
-  value_order = ∥∥₁_elim t le_prop (λ h. (placed_at h lt).value_order);
-  value_in_holds = ∥∥₁_elim t le_prop (λ h. (placed_at h lt).value_in_holds);
-}
+module _ {s : Bytes} {base : ℕ} {table : List ℕ} {count i : ℕ} (t : ∥ Held s base table count ∥₁) (lt : i < count) where
+  pub long_enough : 4 * i + 3 < length table
+  long_enough = ∥∥₁_elim t le_prop (λ h. (placed_at h lt).long)
+
+  pub named_in : base + get_or table (4 * i) 0 ≤ base + get_or table (4 * i + 1) 0
+  named_in = ∥∥₁_elim t le_prop (λ h. (placed_at h lt).name_order)
+
+  pub ends_in : base + get_or table (4 * i + 1) 0 ≤ length s
+  ends_in = ∥∥₁_elim t le_prop (λ h. (placed_at h lt).name_in_lem)
+
+  pub value_order : base + get_or table (4 * i + 2) 0 ≤ base + get_or table (4 * i + 3) 0
+  value_order = ∥∥₁_elim t le_prop (λ h. (placed_at h lt).value_order)
+
+  pub value_in : base + get_or table (4 * i + 3) 0 ≤ length s
+  value_in = ∥∥₁_elim t le_prop (λ h. (placed_at h lt).value_in_holds)
 
 none_of : (a b : Bool) → a || b ≡ false → (a ≡ false) × (b ≡ false)
 none_of true b e = clash e

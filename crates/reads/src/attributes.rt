@@ -20,6 +20,7 @@ impl<'a> Attributes<'a> {
     ghost use Rattle.reads.specs.Attributes.{CalledIn, LiesIn, FoundIn};
 
     // Whether the attribute i has that name.
+    #[tactic(auto, using(crate::proofs::FindLaws::long_enough, crate::proofs::FindLaws::named_in, crate::proofs::FindLaws::ends_in))]
     fn is_named(&self, i: usize, name: &[u8]) -> bool
         requires { i < self.now.count }
         ensures { CalledIn self.now i name.now result }
@@ -30,6 +31,7 @@ impl<'a> Attributes<'a> {
     }
 
     // Where the raw value of the attribute i stands.
+    #[tactic(auto, using(crate::proofs::FindLaws::long_enough, crate::proofs::FindLaws::value_order, crate::proofs::FindLaws::value_in))]
     fn value(&self, i: usize) -> Option<Span>
         requires { i < self.now.count }
         ensures { LiesIn self.now i result }

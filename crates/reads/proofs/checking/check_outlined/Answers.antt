@@ -5,12 +5,6 @@ use Rattle.reads.proofs.CheckLaws.{into_accepted, into_refused, all_cells, clear
 use Rattle.reads.proofs.checking.check_outlined.Goals as goal
 
 -- By whether the message is refused.
-pub tell-o-requires : goal.tell-o-requires
-tell-o-requires c = let n = all_cells c.requires.0 in (omega arith, c.requires.1, c.requires.2)
-
-pub take_id-id-requires : goal.take_id-id-requires
-take_id-id-requires c = let n = all_cells c.requires.0 in omega arith
-
 pub returns-then-o-eq0 : goal.returns-then-o-eq0
 returns-then-o-eq0 c = into_accepted c.requires.0 c.tell-o.ensures c.if-o-eq0.true c.take_id-id.ensures c.told.ensures (let n = all_cells c.requires.0 in omega arith)
 

@@ -13,6 +13,3 @@ name_at-requires c = (refl, c.requires, omega arith)
 
 pub copied-requires : goal.copied-requires
 copied-requires c = (omega arith, length_line c.args.line c.requires c.name_at.ensures)
-
-pub returns : goal.returns
-returns c = c.copied.ensures ∙ c.name_at.ensures

@@ -4,9 +4,6 @@ use Rattle.reads.proofs.IdLaws.{clear_id, read_id}
 use Rattle.reads.proofs.ids.id_of.Goals as goal
 
 -- What stands as it reads is copied.
-pub copied-requires : goal.copied-requires
-copied-requires c = (omega arith, (c.is_clear.ensures c.if-is_clear.true).0)
-
 pub returns-then-is_clear : goal.returns-then-is_clear
 returns-then-is_clear c = clear_id (c.is_clear.ensures c.if-is_clear.true).1 c.copied.ensures
 

@@ -6,11 +6,5 @@ use Rattle.exact.specs.Chain.{clash}
 use Rattle.reads.proofs.IdLaws.{clear_none, clear_end}
 use Rattle.reads.proofs.ids.is_clear.Goals as goal
 
-pub returns-then-raw-ne36 : goal.returns-then-raw-ne36
-returns-then-raw-ne36 c = λ e. clash (sym e)
-
-pub loop-byte-init : goal.loop-byte-init
-loop-byte-init c = (c.if-raw-ne36.false, clear_none c.args.raw.now)
-
 pub returns : goal.returns
 returns c = λ e. (c.loop-byte.invariant.0, clear_end c.loop-byte.invariant.1 c.loop-byte.invariant.0 (let h = c.loop-byte.invariant.0 in let z = c.loop-byte-test.false in omega arith) (eqb-true _ _ e))

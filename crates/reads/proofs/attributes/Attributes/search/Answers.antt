@@ -2,9 +2,6 @@
 use Rattle.reads.proofs.FindLaws.{left_all, search_hit, search_miss, none_left}
 use Rattle.reads.proofs.attributes.Attributes.search.Goals as goal
 
-pub loop-i-init : goal.loop-i-init
-loop-i-init c = λ h. left_all h _
-
 pub returns-then-is_named : goal.returns-then-is_named
 returns-then-is_named c = record { says = λ h. search_hit (c.loop-i.invariant h) c.loop-i-test.true c.is_named.ensures c.if-is_named.true c.value.ensures }
 
