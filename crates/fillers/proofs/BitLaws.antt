@@ -28,7 +28,8 @@ use Rattle.model.specs.Fillers.{text_p, FillAcc, added, ended, text_turn, markup
 use Rattle.model.proofs.Fillers.{stopper_stops, bits_eq}
 use Rattle.scan.specs.Pieces.{Skipped}
 use Rattle.pieces.proofs.CharacterLaws.{plain_other, text_low}
-use Rattle.fillers.specs.Fills.{PlainRun, bits_p, calmly}
+use Rattle.pieces.specs.Parts.{PlainRun}
+use Rattle.fillers.specs.Fills.{bits_p, calmly}
 use Rattle.fillers.proofs.CommentLaws.{plain_no_lt, plain_no_amp, plain_no_stop, plain_low}
 
 -- one turn

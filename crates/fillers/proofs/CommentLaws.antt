@@ -31,7 +31,8 @@ use Rattle.scan.specs.declared.Stop.TheVariants.{Open}
 use Rattle.pieces.specs.Says.{Piece, got, Known, Says}
 use Rattle.pieces.proofs.Answers.{moved, stepped}
 use Rattle.pieces.proofs.CharacterLaws.{plain_quote}
-use Rattle.fillers.specs.Fills.{PlainRun, PastDash}
+use Rattle.pieces.specs.Parts.{PlainRun}
+use Rattle.fillers.specs.Fills.{PastDash}
 
 -- a plain byte is a character that is no `-`; so are `<` and `&`
 no_dash_test : (b : ℕ) → (b ≡ 60 → ⊥) → (b ≡ 38 → ⊥) → plain_byte (banned 45) b ≡ plain_byte is_dash b
@@ -91,11 +92,15 @@ module _ (s : Bytes) (at : ℕ) where
   char_open h = record { says = ap no_dash_p (drop_of_length-le s h) ∙ no_dash_open }
 
   module _ (h : at < length s) where
-    pub char_lt : get_or s at 0 ≡ 60 → CharSays (got 60 (at + 1))
+    char_lt : get_or s at 0 ≡ 60 → CharSays (got 60 (at + 1))
     char_lt e = record { says = record { value = 60; is = refl; far = omega arith; upto = omega arith; reads = rw (add-one, drop-cons s at 0 h, e) (lt_char (drop (suc at) s)) } }
 
-    pub char_amp : get_or s at 0 ≡ 38 → CharSays (got 38 (at + 1))
+    char_amp : get_or s at 0 ≡ 38 → CharSays (got 38 (at + 1))
     char_amp e = record { says = record { value = 38; is = refl; far = omega arith; upto = omega arith; reads = rw (add-one, drop-cons s at 0 h, e) (amp_char (drop (suc at) s)) } }
+
+    pub char_own : (v : ℕ) → v ≡ get_or s at 0 → (get_or s at 0 ≡ 38) ⊎ (get_or s at 0 ≡ 60) → CharSays (got v (at + 1))
+    char_own v e (inl k) = rw (e, k) (char_amp k)
+    char_own v e (inr k) = rw (e, k) (char_lt k)
 
     pub char_other : (get_or s at 0 ≡ 60 → ⊥) → (get_or s at 0 ≡ 38 → ⊥) → {r : Piece} → Says (λ (c : ℕ). c) 1 s at r (char_p (banned 45) (drop at s)) → CharSays r
     char_other a b g = moved g (omega arith) (omega arith) (rw (drop-cons s at 0 h) (sym (same_char (get_or s at 0) (drop (suc at) s) (no_dash_test (get_or s at 0) a b))))

@@ -1,14 +1,12 @@
 -- Gaps and filler at places of a list, one law for each return.
 use mathlib.Core.Path.{◌≡◌, refl, sym, ap, subst, ◌∙◌}
 use mathlib.Core.List.{[], ◌∷◌}
-use mathlib.Core.Bool.{Bool, true, false, not}
+use mathlib.Core.Bool.{Bool, true, false}
 use Prim.Native.Nat.{ℕ, suc, ◌+◌, ◌-◌, ◌≤◌, ◌<◌}
 use native.Mathlib.Omega.{arith}
 use native.Mathlib.Numerals.{add-one}
 use lib.ListN.{length, drop, get_or, drop_of_length-le}
 use lib.Seq.{drop-cons}
-use lib.Dec.{eqb}
-use borrow.Author.Tests.{not-true, eqb-false}
 use Rattle.exact.specs.Exact.{Out, done, bad}
 use Rattle.exact.specs.Ahead.{Ahead}
 use Rattle.grammar.specs.Bytes.{Bytes}
@@ -152,6 +150,3 @@ module _ (site : Site) (s : Bytes) (at : ℕ) where
 -- glue, and a tag behind it
 pub fill_glue : (site : Site) (s : Bytes) (at j : ℕ) → at ≤ length s → Skipped s at j → TagAt s j → GotFiller site s at (Ok (j + 1))
 fill_glue site s at j h x t = let l = t.inside in fill-tag site s at at (fill_start site s at h) j (gap_lt s at j x site (omega arith) t.opens) l t.apart
-
-pub tag_there : {s : Bytes} {j : ℕ} → j + 1 < length s → get_or s j 0 ≡ 60 → not (eqb (get_or s (j + 1) 0) 33) ≡ true → TagAt s j
-tag_there {s} {j} l e z = record { inside = l; opens = e; apart = eqb-false (get_or s (j + 1) 0) 33 (not-true (eqb (get_or s (j + 1) 0) 33) z) }

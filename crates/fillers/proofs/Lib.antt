@@ -1,5 +1,4 @@
 pub mod Fills
-pub mod RunLaws
 pub mod CommentLaws
 pub mod BitLaws
 pub mod TextLaws

@@ -4,11 +4,10 @@ use Rattle.exact.specs.Exact.{done, more, bad, Reader}
 use Rattle.exact.specs.Ahead.{Ahead}
 use Rattle.exact.specs.Loop.{loop_p}
 use Rattle.grammar.specs.Bytes.{Bytes}
-use Rattle.grammar.specs.Value.{banned}
 use Rattle.grammar.specs.Filler.{Site, in_root, below_root, Filler}
-use Rattle.model.specs.Characters.{plain_byte}
 use Rattle.model.specs.Fillers.{FillAcc, bit_p, peek_p}
 use Rattle.scan.specs.Pieces.{Step, Got, chained}
+use Rattle.pieces.specs.Parts.{PlainRun}
 use Rattle.scan.specs.declared.Stop.TheVariants.{Open, Bad}
 
 -- where filler stands
@@ -22,12 +21,6 @@ fill_tok s t = chained (peek_p s t) (λ x u. done x.value (x.first ∷ u))
 
 pub record GotFiller (site : Site) (s : Bytes) (at : ℕ) (r : Step) : Type 0 where
   pub says : Got 1 s at r (fill_tok site (drop at s))
-
--- the bytes from `at` up to r would stand for themselves in quotes q
-pub record PlainRun (q : ℕ) (s : Bytes) (at r : ℕ) : Type 0 where
-  pub from : at ≤ r
-  pub upto : r ≤ length s
-  pub plain : (k : ℕ) → at + k < r → plain_byte (banned q) (get_or s (at + k) 0) ≡ true
 
 -- a `<` stands at j, and no `!` behind it
 pub record TagAt (s : Bytes) (j : ℕ) : Type 0 where

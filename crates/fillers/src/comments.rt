@@ -5,7 +5,7 @@ ghost use Rattle.scan.specs.Pieces.{Got};
 ghost use Rattle.pieces.specs.Says.{Says};
 ghost use Rattle.fillers.specs.Fills.{PastDash};
 
-use crate::runs::run;
+use pieces::runs::run;
 use pieces::{Character, Piece};
 use scan::{Step, Stop};
 
@@ -16,19 +16,14 @@ fn character(s: &[u8], at: usize) -> Piece
     if s.len() <= at {
         return Err(Stop::Open);
     }
-    if s[at] == b'<' {
-        return Ok(Character {
-            code_point: 60,
+    let b = s[at];
+    match b {
+        b'<' | b'&' => Ok(Character {
+            code_point: usize::from(b),
             next: at + 1,
-        });
+        }),
+        _ => pieces::characters::character(s, at, b'-'),
     }
-    if s[at] == b'&' {
-        return Ok(Character {
-            code_point: 38,
-            next: at + 1,
-        });
-    }
-    pieces::characters::character(s, at, b'-')
 }
 
 // The place behind a `-` that stands at i, else i.
@@ -36,10 +31,7 @@ fn past_dash(s: &[u8], i: usize) -> usize
     requires { i < length s.now }
     ensures { PastDash s.now i result }
 {
-    if s[i] == b'-' {
-        return i + 1;
-    }
-    i
+    if s[i] == b'-' { i + 1 } else { i }
 }
 
 // The marks of a comment, and `-->`.

@@ -8,7 +8,6 @@ ghost use Rattle.fillers.specs.Fills.{site_of, GotGap, TagAt, GotFiller};
 use scan::{Step, Stop};
 
 pub mod comments;
-pub mod runs;
 pub mod texts;
 
 // The next `<`, behind glue, or below the root behind text.
@@ -52,13 +51,7 @@ fn is_tag(s: &[u8], j: usize) -> bool
     requires { j ≤ length s.now }
     ensures { result ≡ true → TagAt s.now j }
 {
-    if s.len() - j < 2 {
-        return false;
-    }
-    if s[j] != b'<' {
-        return false;
-    }
-    s[j + 1] != b'!'
+    2 <= s.len() - j && s[j] == b'<' && s[j + 1] != b'!'
 }
 
 /// What may stand between elements, and the `<` behind it; `below`: in an element below the root. Mostly it is glue alone.

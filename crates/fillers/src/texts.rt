@@ -3,17 +3,14 @@ ghost use Rattle.std.specs.Prelude.{◌≡◌, cond, suc, ◌≤◌, ◌<◌, le
 ghost use Rattle.grammar.specs.Filler.{stopper, below_root};
 ghost use Rattle.fillers.specs.Fills.{Cleared, GotGap};
 
-use crate::runs::run;
+use pieces::runs::run;
 use scan::{Step, Stop};
 
 // What may not stand raw behind n `]` in a row.
 fn stop(n: usize) -> u8
     ensures { result ≡ stopper n }
 {
-    if n < 2 {
-        return b'<';
-    }
-    b'>'
+    if n < 2 { b'<' } else { b'>' }
 }
 
 // How many `]` stand in a row behind the byte at i, if n do before it.
@@ -21,10 +18,7 @@ fn row(s: &[u8], i: usize, n: usize) -> usize
     requires { (i < length s.now) × (n ≤ length s.now) }
     ensures { result ≡ cond (eqb 93 (get_or s.now i 0)) (suc n) 0 }
 {
-    if s[i] == b']' {
-        return n + 1;
-    }
-    0
+    if s[i] == b']' { n + 1 } else { 0 }
 }
 
 // Where the bytes end that stand for themselves and are no `]`; none are passed over behind a `]`.
@@ -32,10 +26,7 @@ fn clear(s: &[u8], at: usize, n: usize) -> usize
     requires { at ≤ length s.now }
     ensures { Cleared s.now at n result }
 {
-    if n == 0 {
-        return run(s, at, b']');
-    }
-    at
+    if n == 0 { run(s, at, b']') } else { at }
 }
 
 /// The `<` behind text.

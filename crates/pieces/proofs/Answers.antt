@@ -89,3 +89,14 @@ spoken c g = record { says = record { value = g.says.0; is = refl; far = g.says.
 pub stepped : {A B : Type 0} {f : A → ℕ} {k : ℕ} {s : Bytes} {at : ℕ} {x : Stop} {o : Out A} → Says f k s at (Err x) o
     → {k' at' : ℕ} → at' ≤ at → (K : A → Reader B) {o' : Out B} → o' ≡ and_then o K → StepSays k' s at' (Err x) o'
 stepped {s = s} {at = at} {x = x} {o = o} g {at' = at'} le K q = record { says = stops s at o x g.says at' le K (q ∙ then_and o K) }
+
+-- without its number: what stopped, and the next place
+pub unread : {A : Type 0} {f : A → ℕ} {k : ℕ} {s : Bytes} {at : ℕ} {x : Stop} {o : Out A} → Says f k s at (Err x) o → StepSays k s at (Err x) o
+unread g = record { says = g.says }
+
+pub next : {A : Type 0} {f : A → ℕ} {k : ℕ} {s : Bytes} {at : ℕ} {c : Character} {o : Out A} → Says f k s at (Ok c) o → StepSays k s at (Ok c.next) o
+next g = let y = g.says in record { says = (y.value, y.far, y.upto, y.reads) }
+
+-- an answer that is known, with all that it says
+pub read : {A : Type 0} {f : A → ℕ} {k : ℕ} {s : Bytes} {at : ℕ} {r : Piece} {o : Out A} {c : Character} → r ≡ Ok c → Says f k s at r o → Says f k s at (Ok c) o
+read q g = record { says = known q g }

@@ -1,5 +1,6 @@
 -- The steps of the reader of characters.
 use mathlib.Core.Path.{◌≡◌, refl, sym, ◌∙◌}
+use mathlib.Core.Logic.{◌⊎◌, ⊎_elim}
 use mathlib.Core.Bool.{Bool, true, false, ◌&&◌, ◌||◌, not, cond}
 use Prim.Native.Nat.{ℕ, ◌+◌, ◌-◌, ◌≤◌, ◌<◌}
 use native.Mathlib.Omega.{arith}
@@ -72,11 +73,14 @@ module _ (lo hi : ℕ) (s : Bytes) (at : ℕ) where
   pub tail_open : length s ≤ at → TailSays (Err Open)
   tail_open h = record { says = on_end (within lo hi) (λ b. ret_p b) s at h }
 
-  pub tail_low : at < length s → get_or s at 0 < lo → TailSays (Err (Bad at))
+  tail_low : at < length s → get_or s at 0 < lo → TailSays (Err (Bad at))
   tail_low h k = record { says = (omega arith, h, on_miss (within lo hi) (λ b. ret_p b) s at h (under lo hi _ k)) }
 
-  pub tail_high : at < length s → hi < get_or s at 0 → TailSays (Err (Bad at))
+  tail_high : at < length s → hi < get_or s at 0 → TailSays (Err (Bad at))
   tail_high h k = record { says = (omega arith, h, on_miss (within lo hi) (λ b. ret_p b) s at h (over lo hi _ k)) }
+
+  pub tail_out : at < length s → (get_or s at 0 < lo) ⊎ ((lo ≤ get_or s at 0) × (hi < get_or s at 0)) → TailSays (Err (Bad at))
+  tail_out h k = ⊎_elim (tail_low h) (λ j. tail_high h j.1) k
 
   pub tail_in : (v : ℕ) → v ≡ get_or s at 0 → at < length s → lo ≤ get_or s at 0 → get_or s at 0 ≤ hi → TailSays (got v (at + 1))
   tail_in v e h j k = record { says = record { value = get_or s at 0; is = sym e; far = omega arith; upto = omega arith; reads = on_hit (within lo hi) (λ b. ret_p b) s at h (range_in lo hi _ j k) } }

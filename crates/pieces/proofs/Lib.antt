@@ -3,4 +3,5 @@ pub mod Answers
 pub mod CharacterLaws
 pub mod NumeralLaws
 pub mod ReferenceLaws
+pub mod RunLaws
 pub mod ValueLaws

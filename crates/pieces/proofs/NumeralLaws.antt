@@ -1,8 +1,8 @@
 -- The steps of the readers of references.
-use mathlib.Core.Path.{◌≡◌, refl, sym, ◌∙◌}
+use mathlib.Core.Path.{◌≡◌, refl, sym, ap, ◌∙◌}
 use mathlib.Core.List.{[], ◌∷◌, ◌++◌}
-use mathlib.Core.Logic.{inl, inr}
-use mathlib.Core.Bool.{Bool, true, false, ◌&&◌, ◌||◌, not}
+use mathlib.Core.Logic.{◌⊎◌, inl, inr}
+use mathlib.Core.Bool.{Bool, true, false, ◌&&◌, ◌||◌, not, cond}
 use Prim.Native.Nat.{ℕ, suc, ◌+◌, ◌-◌, ◌*◌, ◌≤◌, ◌<◌}
 use native.Mathlib.Omega.{arith}
 use native.Mathlib.Numerals.{add-one}
@@ -21,7 +21,7 @@ use Rattle.exact.specs.Token.{token_p}
 use Rattle.grammar.specs.Bytes.{Bytes, within, digit, every}
 use Rattle.grammar.specs.Character.{is_char}
 use Rattle.grammar.specs.Reference.{hex_digit, worth, number}
-use Rattle.std.specs.Prelude.{Err}
+use Rattle.std.specs.Prelude.{Some, None, Err}
 use Rattle.scan.specs.declared.Stop.TheVariants.{Open, Bad}
 use Rattle.pieces.specs.Says.{Piece, got, Says}
 use Rattle.pieces.specs.Numerals.{digit_of, base_of, most_of, edge_of, top_of, alive_of, worth_of, numeral_p, value_of}
@@ -69,74 +69,61 @@ char_beyond c h = no_char_as c (λ v. let k = char_max c (of v) in omega arith)
     of (high a b) = char_high c a b
 
 -- digits
-pub digit_low : (k : Bool) (b : ℕ) → b < 48 → 16 ≡ worth_of k b
-unfolding worth_of digit hex_digit
-digit_low true b h = let h₁ : b < 65 = omega arith in let h₂ : b < 97 = omega arith in rw (under 48 57 b h, under 65 70 b h₁, under 97 102 b h₂)
-digit_low false b h = rw (under 48 57 b h)
-
-pub digit_dec : (k : Bool) (b v : ℕ) → v ≡ b → 48 ≤ b → b ≤ 57 → v - 48 ≡ worth_of k b
+pub digit_dec : (k : Bool) (b v : ℕ) → v ≡ b → 48 ≤ b → b ≤ 57 → Some (v - 48) ≡ worth_of k b
 unfolding worth_of digit hex_digit worth
 digit_dec true b v e h j = rw (e, range_in 48 57 b h j, le-leb b 57 j)
 digit_dec false b v e h j = rw (e, range_in 48 57 b h j, le-leb b 57 j)
 
-pub digit_past : (b : ℕ) → 57 < b → 16 ≡ worth_of false b
-unfolding worth_of digit
-digit_past b h = rw (over 48 57 b h)
+pub digit_upper : (k : Bool) (b v : ℕ) → k ≡ true → v ≡ b → 65 ≤ b → b ≤ 70 → Some (v - 55) ≡ worth_of k b
+unfolding worth_of hex_digit digit worth
+digit_upper k b v q e i j = let h : 57 < b = omega arith in rw (q, e, over 48 57 b h, range_in 65 70 b i j, lt-leb b 57 h, le-leb b 70 j) (ap Some (omega arith))
 
-pub digit_hex : (k : Bool) (b r : ℕ) → k ≡ true → r ≡ worth_of true b → r ≡ worth_of k b
-digit_hex k b r e h = rw e h
+pub digit_lower : (k : Bool) (b v : ℕ) → k ≡ true → v ≡ b → 97 ≤ b → b ≤ 102 → Some (v - 87) ≡ worth_of k b
+unfolding worth_of hex_digit digit worth
+digit_lower k b v q e i j = let h : 57 < b = omega arith in let g : 70 < b = omega arith in rw (q, e, over 48 57 b h, over 65 70 b g, range_in 97 102 b i j, lt-leb b 57 h, lt-leb b 70 g) (ap Some (omega arith))
 
-pub digit_not : (k : Bool) (b : ℕ) → k ≡ false → 57 < b → 16 ≡ worth_of k b
-digit_not k b e h = rw e (digit_past b h)
+pub digit_not : (k : Bool) (b : ℕ) → false ≡ digit_of k b → None ≡ worth_of k b
+unfolding worth_of
+digit_not k b h = rw (← h)
 
-module _ (b : ℕ) (h : 57 < b) where
-  pub letter_before : b < 65 → 16 ≡ worth_of true b
-  unfolding worth_of hex_digit digit
-  letter_before j = let i : b < 97 = omega arith in rw (over 48 57 b h, under 65 70 b j, under 97 102 b i)
+-- what stands between the digits of both bases
+pub hex_not : (k : Bool) (b : ℕ) → (b < 48) ⊎ (((57 < b) × (b < 65)) ⊎ (((70 < b) × (b < 97)) ⊎ (102 < b))) → None ≡ worth_of k b
+unfolding hex_digit digit
+hex_not true b (inl h) = let i : b < 65 = omega arith in let j : b < 97 = omega arith in digit_not true b (rw (under 48 57 b h, under 65 70 b i, under 97 102 b j))
+hex_not true b (inr (inl h)) = let j : b < 97 = omega arith in digit_not true b (rw (over 48 57 b h.0, under 65 70 b h.1, under 97 102 b j))
+hex_not true b (inr (inr (inl h))) = let i : 57 < b = omega arith in digit_not true b (rw (over 48 57 b i, over 65 70 b h.0, under 97 102 b h.1))
+hex_not true b (inr (inr (inr h))) = let i : 57 < b = omega arith in let j : 70 < b = omega arith in digit_not true b (rw (over 48 57 b i, over 65 70 b j, over 97 102 b h))
+hex_not false b (inl h) = digit_not false b (rw (under 48 57 b h))
+hex_not false b (inr (inl h)) = digit_not false b (rw (over 48 57 b h.0))
+hex_not false b (inr (inr (inl h))) = let i : 57 < b = omega arith in digit_not false b (rw (over 48 57 b i))
+hex_not false b (inr (inr (inr h))) = let i : 57 < b = omega arith in digit_not false b (rw (over 48 57 b i))
 
-  pub letter_upper : (v : ℕ) → v ≡ b → 65 ≤ b → b ≤ 70 → v - 55 ≡ worth_of true b
-  unfolding worth_of hex_digit digit worth
-  letter_upper v e i j = rw (e, over 48 57 b h, range_in 65 70 b i j, lt-leb b 57 h, le-leb b 70 j) (omega arith)
-
-  pub letter_between : 70 < b → b < 97 → 16 ≡ worth_of true b
-  unfolding worth_of hex_digit digit
-  letter_between i j = rw (over 48 57 b h, over 65 70 b i, under 97 102 b j)
-
-  pub letter_lower : (v : ℕ) → v ≡ b → 70 < b → 97 ≤ b → b ≤ 102 → v - 87 ≡ worth_of true b
-  unfolding worth_of hex_digit digit worth
-  letter_lower v e g i j = rw (e, over 48 57 b h, over 65 70 b g, range_in 97 102 b i j, lt-leb b 57 h, lt-leb b 70 g) (omega arith)
-
-  pub letter_behind : 70 < b → 102 < b → 16 ≡ worth_of true b
-  unfolding worth_of hex_digit digit
-  letter_behind i j = rw (over 48 57 b h, over 65 70 b i, over 97 102 b j)
+pub dec_not : (k : Bool) (b : ℕ) → k ≡ false → 57 < b → None ≡ worth_of k b
+unfolding digit
+dec_not k b e h = rw e (digit_not false b (rw (over 48 57 b h)))
 
 digit_worth : (k : Bool) (b : ℕ) → digit_of k b ≡ true → worth b ≤ 15
 digit_worth true b h = hex_digit_lem b h
 digit_worth false b h = let z = dec_digit b h in omega arith
 
-pub digit_none : (k : Bool) (b d : ℕ) → d ≡ worth_of k b → d ≡ 16 → digit_of k b ≡ false
+pub digit_none : (k : Bool) (b : ℕ) → None ≡ worth_of k b → digit_of k b ≡ false
 unfolding worth_of
-digit_none k b d e h = go (digit_of k b) refl
+digit_none k b e = go (digit_of k b) e
   where
-    go : (z : Bool) → digit_of k b ≡ z → digit_of k b ≡ false
-    go true q = absurd (let y : d ≡ worth b = e ∙ rw q in let x = digit_worth k b q in omega arith)
-    go false q = q
+    go : (z : Bool) → None ≡ cond z (Some (worth b)) None → z ≡ false
+    go true e = let y : false ≡ true = cc in clash (sym y)
+    go false e = refl
 
-pub digit_some : (k : Bool) (b d : ℕ) → d ≡ worth_of k b → (d ≡ 16 → ⊥) → (digit_of k b ≡ true) × (worth b ≡ d)
+pub digit_some : (k : Bool) (b d : ℕ) → Some d ≡ worth_of k b → (digit_of k b ≡ true) × (worth b ≡ d)
 unfolding worth_of
-digit_some k b d e h = go (digit_of k b) refl
+digit_some k b d e = go (digit_of k b) e
   where
-    go : (z : Bool) → digit_of k b ≡ z → (digit_of k b ≡ true) × (worth b ≡ d)
-    go true q = (q, sym (e ∙ rw q))
-    go false q = absurd (h (e ∙ rw q))
+    go : (z : Bool) → Some d ≡ cond z (Some (worth b)) None → (z ≡ true) × (worth b ≡ d)
+    go true e = (refl, cc)
+    go false e = let y : false ≡ true = cc in clash (sym y)
 
-pub digit_max : (k : Bool) (b d : ℕ) → d ≡ worth_of k b → d ≤ 16
-unfolding worth_of
-digit_max k b d e = go (digit_of k b) refl
-  where
-    go : (z : Bool) → digit_of k b ≡ z → d ≤ 16
-    go true q = let y : d ≡ worth b = e ∙ rw q in let x = digit_worth k b q in omega arith
-    go false q = let y : d ≡ 16 = e ∙ rw q in omega arith
+pub digit_max : (k : Bool) (b d : ℕ) → Some d ≡ worth_of k b → d ≤ 16
+digit_max k b d e = let z = digit_some k b d e in let y = digit_worth k b z.0 in omega arith
 
 -- viability
 pub alive_now : (k : Bool) (j v : ℕ) → is_char v ≡ true → true ≡ alive_of k j v
@@ -223,31 +210,31 @@ module _ (k : Bool) (s : Bytes) (at v i spare : ℕ) (w : Counted k s at v i spa
   pub digits_open : length s ≤ i → NumSays (Err Open)
   digits_open h = record { says = w.same ∙ rw (drop_of_length-le s h) }
 
-  module _ (h : i < length s) (d : ℕ) (is-d : d ≡ worth_of k (get_or s i 0)) where
+  module _ (h : i < length s) where
     bad_at : tok k w.n (get_or s i 0 ∷ drop (suc i) s) ≡ bad (get_or s i 0 ∷ drop (suc i) s) → NumSays (Err (Bad i))
     bad_at e = record { says = (w.from, h, w.same ∙ rw (drop-cons s i 0 h) e) }
 
-    pub digits_other : d ≡ 16 → (get_or s i 0 ≡ 59 → ⊥) → NumSays (Err (Bad i))
-    digits_other e q = bad_at (tok_bad k w.n _ _ (begun_shut k w.n _ (digit_none k _ d is-d e)) (ne_eqb 59 (get_or s i 0) (λ z. q (sym z))))
+    pub digits_other : None ≡ worth_of k (get_or s i 0) → (get_or s i 0 ≡ 59 → ⊥) → NumSays (Err (Bad i))
+    digits_other e q = bad_at (tok_bad k w.n _ _ (begun_shut k w.n _ (digit_none k _ e)) (ne_eqb 59 (get_or s i 0) (λ z. q (sym z))))
 
-    pub digits_done : d ≡ 16 → get_or s i 0 ≡ 59 → is_char v ≡ true → NumSays (got v (i + 1))
+    pub digits_done : None ≡ worth_of k (get_or s i 0) → get_or s i 0 ≡ 59 → is_char v ≡ true → NumSays (got v (i + 1))
     unfolding okay
     digits_done e q c =
         let x = w.from in
         let y : is_char (number (base_of k) 0 w.n) ≡ true = rw w.value c in
-        let z : begun_of k (w.n ++ get_or s i 0 ∷ []) ≡ false = begun_shut k w.n _ (digit_none k _ d is-d e) in
+        let z : begun_of k (w.n ++ get_or s i 0 ∷ []) ≡ false = begun_shut k w.n _ (digit_none k _ e) in
         record { says = record { value = w.n; is = w.value; far = omega arith; upto = omega arith; reads = w.same ∙ rw (add-one, drop-cons s i 0 h, z, y, eq-eqb 59 (get_or s i 0) (sym q)) } }
 
-    pub digits_none : d ≡ 16 → is_char v ≡ false → NumSays (Err (Bad i))
+    pub digits_none : None ≡ worth_of k (get_or s i 0) → is_char v ≡ false → NumSays (Err (Bad i))
     unfolding okay
     digits_none e c =
         let y : is_char (number (base_of k) 0 w.n) ≡ false = rw w.value c in
-        let z : begun_of k (w.n ++ get_or s i 0 ∷ []) ≡ false = begun_shut k w.n _ (digit_none k _ d is-d e) in
+        let z : begun_of k (w.n ++ get_or s i 0 ∷ []) ≡ false = begun_shut k w.n _ (digit_none k _ e) in
         bad_at (rw (z, y))
 
-    module _ (non_empty : d ≡ 16 → ⊥) where
+    module _ (d : ℕ) (is-d : Some d ≡ worth_of k (get_or s i 0)) where
       is_digit : digit_of k (get_or s i 0) ≡ true
-      is_digit = (digit_some k _ d is-d non_empty).0
+      is_digit = (digit_some k _ d is-d).0
 
       pub digits-full : spare ≡ 0 → NumSays (Err (Bad i))
       digits-full e = let z = w.size in bad_at (tok_bad k w.n _ _ (begun_full k w.n _ (omega arith)) (digit_semi k _ is_digit))
@@ -257,7 +244,7 @@ module _ (k : Bool) (s : Bytes) (at v i spare : ℕ) (w : Counted k s at v i spa
         now-is =
             let z = w.size in
             let e : length w.n + suc (spare - 1) ≡ most_of k = omega arith in
-            begun_is k w.n (get_or s i 0) (spare - 1) w.all is_digit e ∙ rw (w.value, (digit_some k _ d is-d non_empty).1, is-v)
+            begun_is k w.n (get_or s i 0) (spare - 1) w.all is_digit e ∙ rw (w.value, (digit_some k _ d is-d).1, is-v)
 
         pub digits-dead : alive_of k (spare - 1) v' ≡ false → NumSays (Err (Bad i))
         digits-dead e = bad_at (tok_bad k w.n _ _ (now-is ∙ e) (digit_semi k _ is_digit))
@@ -271,7 +258,7 @@ module _ (k : Bool) (s : Bytes) (at v i spare : ℕ) (w : Counted k s at v i spa
               n = w.n ++ get_or s i 0 ∷ [];
               from = omega arith;
               size = rw length-append (omega arith);
-              value = number_append (base_of k) 0 w.n (get_or s i 0 ∷ []) ∙ rw (w.value, (digit_some k _ d is-d non_empty).1, is-v);
+              value = number_append (base_of k) 0 w.n (get_or s i 0 ∷ []) ∙ rw (w.value, (digit_some k _ d is-d).1, is-v);
               small = alive_max (edge_of k) (top_of k) (spare - 1) v' (top_max k) (alive_view (edge_of k) (top_of k) (spare - 1) v' e);
               all = every_append (digit_of k) w.n (get_or s i 0 ∷ []) w.all (rw is_digit);
               same = w.same ∙ rw (add-one, drop-cons s i 0 h, u);

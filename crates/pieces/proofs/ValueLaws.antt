@@ -3,7 +3,7 @@ use mathlib.Core.Path.{◌≡◌, refl, sym, subst, ◌∙◌}
 use mathlib.Core.List.{[], ◌∷◌}
 use mathlib.Core.Logic.{◌⊎◌}
 use mathlib.Core.Bool.{Bool, true, false, ◌&&◌, not}
-use Prim.Native.Nat.{ℕ, zero, suc, ◌+◌, ◌≤◌, ◌<◌}
+use Prim.Native.Nat.{ℕ, zero, suc, ◌+◌, ◌-◌, ◌≤◌, ◌<◌}
 use native.Mathlib.Omega.{arith}
 use native.Mathlib.Numerals.{add-one}
 use lib.ListN.{length, drop, get_or, drop_of_length-le}
@@ -25,9 +25,11 @@ use Rattle.grammar.specs.Character.{is_char}
 use Rattle.grammar.specs.Reference.{read_reference}
 use Rattle.grammar.specs.Value.{Item, raw, ref, banned}
 use Rattle.std.specs.Prelude.{Ok, Err}
-use Rattle.pieces.specs.Says.{Piece, Known, Says}
-use Rattle.pieces.specs.Parts.{code_point, IsQuote, InValue, Plain, Ran}
-use Rattle.pieces.proofs.Answers.{last, stepped}
+use Rattle.pieces.specs.Says.{Piece, Says}
+use Rattle.pieces.specs.Parts.{code_point, IsQuote, InValue, Plain, PlainRun, Ran}
+use Rattle.scan.specs.Unfold.{then_and}
+use Rattle.scan.proofs.Chain.{pass as step_pass, last as step_last}
+use Rattle.pieces.proofs.Answers.{last}
 use Rattle.pieces.proofs.CharacterLaws.{plain_quote}
 use Rattle.scan.specs.Pieces.{Step, Got as StepSays}
 use Rattle.scan.specs.declared.Stop.{Stop}
@@ -47,6 +49,10 @@ module _ (q : ℕ) (s : Bytes) (at : ℕ) where
     pub item_raw : {r : Piece} → (get_or s at 0 ≡ 38 → ⊥) → Says (λ (c : ℕ). c) 1 s at r (char_p (banned q) (drop at s)) → Says code_point 1 s at r (item_p q (drop at s))
     unfolding item_p
     item_raw e g = last g (omega arith) (omega arith) raw (λ x. refl) (rw (drop-cons s at 0 h, ne_eqb 38 (get_or s at 0) (λ z. e (sym z))))
+
+    pub step_raw : {r : Step} → (get_or s at 0 ≡ 38 → ⊥) → StepSays 1 s at r (char_p (banned q) (drop at s)) → StepSays 1 s at r (item_p q (drop at s))
+    unfolding item_p
+    step_raw e g = step_last g 1 at (omega arith) (omega arith) raw (rw (drop-cons s at 0 h, ne_eqb 38 (get_or s at 0) (λ z. e (sym z))) (then_and _ _))
 
 -- one turn
 module _ (q : ℕ) (is-q : IsQuote q) where
@@ -108,6 +114,14 @@ module _ (q : ℕ) (is-q : IsQuote q) where
         let f : plain_byte (banned q) (get_or s i 0) ≡ true = rw z at (p 0 (omega arith)) in
         subst (λ (x : ℕ). Ran q s at x) (omega arith) (ran_many n (i + 1) (ran_more i w (omega arith) f) (omega arith) (λ k l. let e : i + suc k ≡ i + 1 + k = omega arith in rw e at (p (suc k) (omega arith))))
 
+    -- a run of them
+    pub ran_run : (r : ℕ) → PlainRun q s at r → Ran q s at r
+    ran_run r x =
+        let a = x.from in
+        let u = x.upto in
+        let e : at + (r - at) ≡ r = omega arith in
+        subst (λ (x : ℕ). Ran q s at x) e (ran_many (r - at) at ran_none (omega arith) (λ k l. x.plain k (omega arith)))
+
     pub value_start : InValue q s at at
     unfolding value_p
     value_start = record { k = λ l. l; from = omega arith; same = refl }
@@ -131,11 +145,11 @@ module _ (q : ℕ) (is-q : IsQuote q) where
           turned : value_p q (drop at s) ≡ and_then (item_p q (drop i s)) (λ x t. loop_p (turn_p q) (λ l. w.k (x ∷ l)) t)
           turned = w.same ∙ rw (drop-cons s i 0 h) (go_item w.k (get_or s i 0) (drop (suc i) s) ne)
 
-          pub value-fail : {x : Stop} → Says code_point 1 s i (Err x) (item_p q (drop i s)) → ValueSays (Err x)
-          value-fail g = stepped g w.from (λ x t. loop_p (turn_p q) (λ l. w.k (x ∷ l)) t) turned
+          pub value-fail : {x : Stop} → StepSays 1 s i (Err x) (item_p q (drop i s)) → ValueSays (Err x)
+          value-fail g = step_pass g 1 at w.from _ (turned ∙ then_and _ _)
 
-          pub value-next : {c e : ℕ} → Known code_point 1 s i c e (item_p q (drop i s)) → InValue q s at e
-          value-next g = let z = w.from in let y = g.far in let x = g.reads in record { k = λ l. w.k (g.value ∷ l); from = omega arith; same = turned ∙ rw x }
+          pub value-next : {e : ℕ} → StepSays 1 s i (Ok e) (item_p q (drop i s)) → InValue q s at e
+          value-next g = let z = w.from in let y = g.says.1 in let x = g.says.3 in record { k = λ l. w.k (g.says.0 ∷ l); from = omega arith; same = turned ∙ rw x }
 
 -- a printable character that is none of `<`, `&` and the quote stands as itself
 pub clear_plain : (b q : ℕ) → (((ltb 31 b && ltb b 128) && not (eqb b 60)) && not (eqb b 38)) && not (eqb b q) ≡ true → plain_byte (banned q) b ≡ true

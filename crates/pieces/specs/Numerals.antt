@@ -1,5 +1,5 @@
 -- Numeric references of both bases at once: k is true for hexadecimal.
-use Rattle.std.specs.Prelude.{Bool, true, false, cond, ℕ}
+use Rattle.std.specs.Prelude.{Bool, true, false, cond, ℕ, Option, Some, None}
 use Rattle.model.specs.References.{alive, number_p}
 use Rattle.exact.specs.Exact.{Reader}
 use Rattle.grammar.specs.Bytes.{Bytes, digit}
@@ -31,9 +31,9 @@ top_of false = 111_411
 abbrev pub alive_of : Bool → ℕ → ℕ → Bool
 alive_of k j v = alive (edge_of k) (top_of k) j v
 
--- what a digit is worth, and 16 where there is none
-unfoldable pub worth_of : Bool → ℕ → ℕ
-worth_of k b = cond (digit_of k b) (worth b) 16
+-- what a digit is worth
+unfoldable pub worth_of : Bool → ℕ → Option ℕ
+worth_of k b = cond (digit_of k b) (Some (worth b)) None
 
 abbrev pub numeral_p : Bool → Reader Bytes
 numeral_p k = number_p (digit_of k) (base_of k) (most_of k) (edge_of k) (top_of k)

@@ -1,5 +1,5 @@
 -- The parts of the models that single functions read.
-use Rattle.std.specs.Prelude.{◌≡◌, Bool, true, ℕ, ◌+◌, ◌-◌, ◌≤◌, ◌<◌, drop, get_or, eqb}
+use Rattle.std.specs.Prelude.{◌≡◌, Bool, true, ℕ, ◌+◌, ◌-◌, ◌≤◌, ◌<◌, length, drop, get_or, eqb}
 use Prim.Native.Char.{code}
 use Rattle.model.specs.Characters.{next6, cont, second3, third3, second4, plain_byte}
 use Rattle.model.specs.References.{dec_p, hex_p, named_p}
@@ -51,6 +51,12 @@ pub record InValue (q : ℕ) (s : Bytes) (at i : ℕ) : Type 0 where
 -- n bytes from i on stand as themselves in quotes q
 abbrev pub Plain : ℕ → Bytes → ℕ → ℕ → Type 0
 Plain q s i n = (k : ℕ) → k < n → plain_byte (banned q) (get_or s (i + k) 0) ≡ true
+
+-- the bytes from `at` up to r would stand for themselves in quotes q
+pub record PlainRun (q : ℕ) (s : Bytes) (at r : ℕ) : Type 0 where
+  pub from : at ≤ r
+  pub upto : r ≤ length s
+  pub plain : (k : ℕ) → at + k < r → plain_byte (banned q) (get_or s (at + k) 0) ≡ true
 
 -- raw bytes from `at` up to r
 pub record Ran (q : ℕ) (s : Bytes) (at r : ℕ) : Type 0 where

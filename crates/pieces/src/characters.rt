@@ -6,39 +6,29 @@ ghost use Rattle.exact.specs.Byte.{on_p};
 ghost use Rattle.grammar.specs.Bytes.{within};
 ghost use Rattle.grammar.specs.Value.{banned};
 ghost use Rattle.model.specs.Characters.{next6, plain_byte, char_p};
+ghost use Rattle.scan.specs.Pieces.{Got};
 ghost use Rattle.pieces.specs.Says.{Says};
 ghost use Rattle.pieces.specs.Parts.{text_byte, two_p, three_p, four_p};
 
 use crate::{Character, Piece};
-use scan::Stop;
+use scan::{Step, Stop};
 
 // Whether b may stand raw in a value as a character of one byte, if it is not the quote.
 fn is_text(b: u8) -> bool
     ensures { result ≡ text_byte b }
 {
-    if b < b' ' {
-        return scan::is_glue(b);
+    match b {
+        0..=0x1F => scan::is_glue(b),
+        b'<' | b'&' | 0x80..=0xFF => false,
+        _ => true,
     }
-    if b == b'<' {
-        return false;
-    }
-    if b == b'&' {
-        return false;
-    }
-    if 127 < b {
-        return false;
-    }
-    true
 }
 
 /// Whether b may stand raw in a value in these quotes as a character of one byte.
 pub fn is_plain(b: u8, quote: u8) -> bool
     ensures { result ≡ plain_byte (banned quote) b }
 {
-    if quote == b {
-        return false;
-    }
-    is_text(b)
+    quote != b && is_text(b)
 }
 
 // A byte between low and high.
@@ -49,14 +39,11 @@ fn tail(s: &[u8], at: usize, low: u8, high: u8) -> Piece
         return Err(Stop::Open);
     }
     let b = s[at];
-    if b < low {
-        return Err(Stop::Bad(at));
-    }
-    if high < b {
+    if b < low || high < b {
         return Err(Stop::Bad(at));
     }
     Ok(Character {
-        code_point: crate::wide(b),
+        code_point: usize::from(b),
         next: at + 1,
     })
 }
@@ -65,20 +52,14 @@ fn tail(s: &[u8], at: usize, low: u8, high: u8) -> Piece
 fn bound(b: u8, odd: u8, there: u8, usual: u8) -> u8
     ensures { result ≡ cond (eqb odd b) there usual }
 {
-    if odd == b {
-        return there;
-    }
-    usual
+    if odd == b { there } else { usual }
 }
 
 // The last byte that may stand behind EF and c.
 fn top(c: usize) -> u8
     ensures { result ≡ cond (eqb 191 c) 189 191 }
 {
-    if 0xBF == c {
-        return 0xBD;
-    }
-    0xBF
+    if 0xBF == c { 0xBD } else { 0xBF }
 }
 
 // The number so far, with the six bits of one byte more.
@@ -96,7 +77,7 @@ fn two(s: &[u8], at: usize, b: u8) -> Piece
 {
     let c = tail(s, at, 0x80, 0xBF)?;
     Ok(Character {
-        code_point: next6(crate::wide(b) - 0xC0, c.code_point),
+        code_point: next6(usize::from(b) - 0xC0, c.code_point),
         next: c.next,
     })
 }
@@ -113,7 +94,7 @@ fn three(s: &[u8], at: usize, b: u8) -> Piece
         bound(b, 0xED, 0x9F, 0xBF),
     )?;
     let d = tail(s, c.next, 0x80, bound(b, 0xEF, top(c.code_point), 0xBF))?;
-    let v = next6(crate::wide(b) - 0xE0, c.code_point);
+    let v = next6(usize::from(b) - 0xE0, c.code_point);
     Ok(Character {
         code_point: next6(v, d.code_point),
         next: d.next,
@@ -133,7 +114,7 @@ fn four(s: &[u8], at: usize, b: u8) -> Piece
     )?;
     let d = tail(s, c.next, 0x80, 0xBF)?;
     let e = tail(s, d.next, 0x80, 0xBF)?;
-    let v = next6(crate::wide(b) - 0xF0, c.code_point);
+    let v = next6(usize::from(b) - 0xF0, c.code_point);
     Ok(Character {
         code_point: next6(next6(v, d.code_point), e.code_point),
         next: e.next,
@@ -152,36 +133,28 @@ pub fn character(s: &[u8], at: usize, quote: u8) -> Piece
         0..=0x7F => {
             if is_plain(b, quote) {
                 return Ok(Character {
-                    code_point: crate::wide(b),
+                    code_point: usize::from(b),
                     next: at + 1,
                 });
             }
-            return Err(Stop::Bad(at));
+            Err(Stop::Bad(at))
         }
-        0xC2..=0xDF => {
-            return two(s, at + 1, b);
-        }
-        0xE0..=0xEF => {
-            return three(s, at + 1, b);
-        }
-        0xF0..=0xF4 => {
-            return four(s, at + 1, b);
-        }
-        _ => {
-            return Err(Stop::Bad(at));
-        }
+        0xC2..=0xDF => two(s, at + 1, b),
+        0xE0..=0xEF => three(s, at + 1, b),
+        0xF0..=0xF4 => four(s, at + 1, b),
+        _ => Err(Stop::Bad(at)),
     }
 }
 
-/// The same where a character beyond ASCII stands most often: it has few bytes, and nobody wants to know which it is.
-pub fn beyond(s: &[u8], at: usize, quote: u8) -> Piece
+/// The place behind that character. Where one beyond ASCII stands it mostly has two or three bytes, and nobody wants to know which it is.
+pub fn behind(s: &[u8], at: usize, quote: u8) -> Step
     requires { at < length s.now }
-    ensures { Says (λ (c : ℕ). c) 1 s.now at result (char_p (banned quote) (drop at s.now)) }
+    ensures { Got 1 s.now at result (char_p (banned quote) (drop at s.now)) }
 {
     let b = s[at];
     match b {
-        0xC2..=0xDF => two(s, at + 1, b),
-        0xE0..=0xEF => three(s, at + 1, b),
-        _ => character(s, at, quote),
+        0xC2..=0xDF => Ok(two(s, at + 1, b)?.next),
+        0xE0..=0xEF => Ok(three(s, at + 1, b)?.next),
+        _ => Ok(character(s, at, quote)?.next),
     }
 }

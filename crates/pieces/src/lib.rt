@@ -2,12 +2,11 @@
 // Each function says what the model at its place says.
 #![tactic(auto)]
 
-ghost use Rattle.std.specs.Prelude.{◌≡◌};
-
 use scan::Stop;
 
 pub mod characters;
 pub mod references;
+pub mod runs;
 pub mod values;
 
 /// What a reference or a character names, and the next place.
@@ -19,9 +18,3 @@ pub struct Character {
 
 /// One reference or character, or why there is none.
 pub type Piece = Result<Character, Stop>;
-
-fn wide(b: u8) -> usize
-    ensures { result ≡ b }
-{
-    b as usize
-}

@@ -16,56 +16,26 @@ use scan::Stop;
 pub fn is_char(c: usize) -> bool
     ensures { result ≡ is_char c }
 {
-    match c {
-        9..=10 | 13 | 0x20..=0xD7FF | 0xE000..=0xFFFD | 0x10000..=0x10FFFF => true,
-        _ => false,
-    }
+    matches!(c, 9..=10 | 13 | 0x20..=0xD7FF | 0xE000..=0xFFFD | 0x10000..=0x10FFFF)
 }
 
-// What the letter b is worth as a hex digit, 16 where it is none.
-fn letter(b: u8) -> usize
-    requires { 57 < b }
-    ensures { result ≡ worth_of true b }
-{
-    if b < b'A' {
-        return 16;
-    }
-    if b <= b'F' {
-        return crate::wide(b) - 55;
-    }
-    if b < b'a' {
-        return 16;
-    }
-    if b <= b'f' {
-        return crate::wide(b) - 87;
-    }
-    16
-}
-
-// What b is worth as a digit, 16 where it is none.
-fn worth(b: u8, hex: bool) -> usize
+// What b is worth as a digit.
+fn worth(b: u8, hex: bool) -> Option<usize>
     ensures { result ≡ worth_of hex b }
 {
-    if b < b'0' {
-        return 16;
+    match b {
+        b'0'..=b'9' => Some(usize::from(b) - 48),
+        b'A'..=b'F' if hex => Some(usize::from(b) - 55),
+        b'a'..=b'f' if hex => Some(usize::from(b) - 87),
+        _ => None,
     }
-    if b <= b'9' {
-        return crate::wide(b) - 48;
-    }
-    if hex {
-        return letter(b);
-    }
-    16
 }
 
 // The most digits that a reference may have.
 fn most(hex: bool) -> usize
     ensures { result ≡ most_of hex }
 {
-    if hex {
-        return 6;
-    }
-    7
+    if hex { 6 } else { 7 }
 }
 
 // One digit more.
@@ -73,23 +43,15 @@ fn grow(v: usize, d: usize, hex: bool) -> usize
     requires { (v ≤ 1114111) × (d ≤ 16) }
     ensures { result ≡ v * base_of hex + d }
 {
-    if hex {
-        return v * 16 + d;
-    }
-    v * 10 + d
+    let base = if hex { 16 } else { 10 };
+    v * base + d
 }
 
 // Whether v, which is no character, can become one by `left` digits: edge needs two.
 fn below(v: usize, left: usize, edge: usize, top: usize) -> bool
     ensures { result ≡ leb v top && (not (eqb edge v) || leb 2 left) }
 {
-    if top < v {
-        return false;
-    }
-    if edge == v {
-        return 2 <= left;
-    }
-    true
+    v <= top && (edge != v || 2 <= left)
 }
 
 // Whether v is a character, or becomes one by at most `left` more digits.
@@ -113,12 +75,10 @@ fn number(s: &[u8], at: usize, hex: bool) -> Piece
     ensures { Says (value_of hex) 1 s.now at result (numeral_p hex (drop at s.now)) }
 {
     let mut v = 0;
-    let mut i = at;
     let mut left = most(hex);
-    while i < s.len() {
+    for i in at..s.len() {
         let b = s[i];
-        let d = worth(b, hex);
-        if d == 16 {
+        let Some(d) = worth(b, hex) else {
             if b != b';' {
                 return Err(Stop::Bad(i));
             }
@@ -129,17 +89,15 @@ fn number(s: &[u8], at: usize, hex: bool) -> Piece
                 });
             }
             return Err(Stop::Bad(i));
-        }
+        };
         if left == 0 {
             return Err(Stop::Bad(i));
         }
-        let w = grow(v, d, hex);
-        if !is_alive(w, left - 1, hex) {
+        v = grow(v, d, hex);
+        left -= 1;
+        if !is_alive(v, left, hex) {
             return Err(Stop::Bad(i));
         }
-        v = w;
-        left -= 1;
-        i += 1;
     }
     Err(Stop::Open)
 }
@@ -160,23 +118,20 @@ fn named(s: &[u8], at: usize) -> Piece
     if s.len() <= at {
         return Err(Stop::Open);
     }
-    let b = s[at];
-    if b == b'a' {
-        if s.len() - at < 2 {
-            return Err(Stop::Open);
+    match s[at] {
+        b'a' => {
+            if s.len() - at < 2 {
+                return Err(Stop::Open);
+            }
+            if s[at + 1] == b'm' {
+                return word(s, at + 1, b"mp;", 38);
+            }
+            word(s, at + 1, b"pos;", 39)
         }
-        if s[at + 1] == b'm' {
-            return word(s, at + 1, b"mp;", 38);
-        }
-        return word(s, at + 1, b"pos;", 39);
+        b'l' => word(s, at, b"lt;", 60),
+        b'g' => word(s, at, b"gt;", 62),
+        _ => word(s, at, b"quot;", 34),
     }
-    if b == b'l' {
-        return word(s, at, b"lt;", 60);
-    }
-    if b == b'g' {
-        return word(s, at, b"gt;", 62);
-    }
-    word(s, at, b"quot;", 34)
 }
 
 // Behind `&#`.

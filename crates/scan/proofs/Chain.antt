@@ -1,13 +1,16 @@
 -- Chains of readers at positions: what stopped one stops the chain, what was read leads to what is left.
 use mathlib.Core.Path.{◌≡◌, refl, ap, subst, ◌∙◌}
-use Prim.Native.Nat.{ℕ, ◌+◌, ◌-◌, ◌≤◌}
+use Prim.Native.Nat.{ℕ, suc, ◌+◌, ◌-◌, ◌≤◌, ◌<◌}
 use native.Mathlib.Omega.{arith}
-use lib.ListN.{take, drop}
+use native.Mathlib.Numerals.{add-one}
+use lib.ListN.{length, take, drop, get_or, drop_of_length-le}
+use lib.Seq.{drop-cons}
 use Rattle.std.specs.Prelude.{Result, Ok, Err, IsErrAnd}
 use Rattle.std.proofs.lemmas.Result.{err_from_is_err_and}
 use Rattle.exact.specs.Exact.{Out, done, more, bad}
 use Rattle.grammar.specs.Bytes.{Bytes}
 use Rattle.scan.specs.Pieces.{StopCase, Got, GotTok, byte_p, word_p, glue_tok, chained, Step, glued_p, end_tag_p}
+use Rattle.scan.specs.Unfold.{lit_bind}
 use Rattle.scan.specs.declared.Stop.{Stop}
 use Rattle.scan.specs.declared.Stop.TheVariants.{Open, Bad}
 
@@ -65,6 +68,30 @@ known {A} {k} {s} {at} {r} {o} q g = subst (λ (r : Step). Got k s at r o) q g
 
 pub known_tok : {k : ℕ} {s : Bytes} {at : ℕ} {r : Step} {o : Out Bytes} {e : ℕ} → r ≡ Ok e → GotTok k s at r o → GotTok k s at (Ok e) o
 known_tok {k} {s} {at} {r} {o} q g = subst (λ (r : Step). GotTok k s at r o) q g
+
+-- bytes: k of w are read, up to i
+pub Rest : Bytes → ℕ → Bytes → ℕ → ℕ → Type 0
+Rest s at w k i = word_p w (drop at s) ≡ word_p (drop k w) (drop i s)
+
+pub rest_none : (s : Bytes) (at : ℕ) (w : Bytes) → Rest s at w 0 at
+unfolding Rest
+rest_none s at w = refl
+
+module _ (s : Bytes) (at : ℕ) (w : Bytes) (k i : ℕ) (lt : k < length w) (r : Rest s at w k i) where
+  rest_byte : word_p w (drop at s) ≡ chained (byte_p (get_or w k 0) (drop i s)) (λ _ u. word_p (drop (k + 1) w) u)
+  unfolding Rest word_p
+  rest_byte = r ∙ rw (drop-cons w k 0 lt, add-one) (lit_bind (get_or w k 0) (drop (suc k) w) 0 (drop i s))
+
+  pub rest_fails : at ≤ i → {n : ℕ} {x : Stop} → Got 1 s i (Err x) (byte_p (get_or w k 0) (drop i s)) → Got n s at (Err x) (word_p w (drop at s))
+  rest_fails le {n} g = pass g n at le _ rest_byte
+
+  pub rest_more : {e : ℕ} → Got 1 s i (Ok e) (byte_p (get_or w k 0) (drop i s)) → Rest s at w (k + 1) e
+  unfolding Rest
+  rest_more g = rest_byte ∙ then_done _ g.says.3
+
+pub rest_done : (s : Bytes) (at : ℕ) (w : Bytes) (k i : ℕ) → length w ≤ k → Rest s at w k i → word_p w (drop at s) ≡ done 0 (drop i s)
+unfolding Rest word_p
+rest_done s at w k i h r = r ∙ rw (drop_of_length-le w h)
 
 -- glue and a byte
 module _ (b : ℕ) (s : Bytes) (at : ℕ) where

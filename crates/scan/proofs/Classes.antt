@@ -10,7 +10,8 @@ use native.Mathlib.Decide.{ℕ_discrete}
 use types.Run.{OneOf}
 use lib.Dec.{T, eqb}
 use borrow.Author.Tests.{ne_eqb}
-use Rattle.grammar.specs.Bytes.{digit}
+use Rattle.std.specs.Char.{is_ascii_alphabetic}
+use Rattle.grammar.specs.Bytes.{digit, within}
 use Rattle.grammar.specs.Name.{letter, name_start, name_byte}
 
 abbrev both : Bool → Bool → Bool
@@ -75,16 +76,24 @@ no_key (k ∷ j ∷ ks) b h = rw (ne_eqb b k (λ e. h (inl e))) (no_key (j ∷ k
 pub ranged_but : (f : ℕ → Bool) (v : Bool) (ks : List ℕ) (lo n : ℕ) → T (all_is (λ b. cond (is_key ks b) v (f b)) v lo n) → (b : ℕ) → lo ≤ b → b < lo + n → (OneOf ks b → ⊥) → v ≡ f b
 ranged_but f v ks lo n t b h k ne = rw (no_key ks b ne) at (ranged (λ x. cond (is_key ks x) v (f x)) v lo n t b h k)
 
+-- two classes that agree at each of the numbers below n
+pub alike : (f g : ℕ → Bool) (n : ℕ) → T (all_is (λ b. same (f b) (g b)) true 0 n) → (b : ℕ) → b < n → f b ≡ g b
+alike f g n t b h = same_eq (f b) (g b) (subst T (ranged (λ b. same (f b) (g b)) true 0 n t b (omega arith) (omega arith)) tt)
+
+pub start_class : (b : ℕ) → b < 256 → (is_ascii_alphabetic b || eqb b 95) ≡ name_start b
+unfolding name_start letter within
+start_class b h = alike (λ b. is_ascii_alphabetic b || eqb b 95) name_start 256 tt b h
+
 -- a name's bytes that are no letters
 unfoldable pub sign : ℕ → Bool
 sign b = eqb (code "_") b || (digit b || (eqb (code "-") b || (eqb (code ".") b || eqb (code ":") b)))
 
-pub letter_name : (b : ℕ) → letter b ≡ true → true ≡ name_byte b
-unfolding name_byte name_start
+pub letter_name : (b : ℕ) → is_ascii_alphabetic b ≡ true → true ≡ name_byte b
+unfolding name_byte name_start letter within
 letter_name b h = rw h
 
-pub sign_name : (b : ℕ) (v : Bool) → letter b ≡ false → v ≡ sign b → v ≡ name_byte b
-unfolding name_byte name_start sign
+pub sign_name : (b : ℕ) (v : Bool) → is_ascii_alphabetic b ≡ false → v ≡ sign b → v ≡ name_byte b
+unfolding name_byte name_start sign letter within
 sign_name b v h e = rw h (e ∙ go (eqb (code "_") b) _)
   where
     go : (x y : Bool) → x || y ≡ x || y

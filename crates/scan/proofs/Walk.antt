@@ -7,7 +7,7 @@ use Prim.Native.Nat.{ℕ, suc, ◌+◌, ◌-◌, ◌≤◌, ◌<◌}
 use native.Mathlib.Omega.{arith}
 use native.Mathlib.Numerals.{add-one}
 use lib.ListN.{length, length-append, take, drop, get_or, length-take, length-drop, drop_of_length-le}
-use native.Mathlib.Nat.{sub_self, add-zero}
+use native.Mathlib.Nat.{sub_self}
 use lib.Seq.{drop-cons, get_or-drop, take-suc}
 use borrow.Author.Tests.{lt-leb, eq-eqb, ne_eqb}
 use Rattle.model.specs.Tests.{and_left, and_right, and_both, every_append, every_snoc}
@@ -20,7 +20,7 @@ use Rattle.exact.specs.Token.{token_p}
 use Rattle.grammar.specs.Bytes.{Bytes, every, non_empty}
 use Rattle.grammar.specs.Glue.{is_glue}
 use Rattle.grammar.specs.Name.{name_start, name_byte, shaped}
-use Rattle.scan.specs.Pieces.{Got, GotTok, Walked, Skipped, byte_p, word_p, glue_tok, name_tok}
+use Rattle.scan.specs.Pieces.{Got, GotTok, Walked, Skipped, byte_p, glue_tok, name_tok}
 use Rattle.std.specs.Prelude.{Ok, Err}
 use Rattle.scan.specs.declared.Stop.TheVariants.{Open, Bad}
 
@@ -146,30 +146,3 @@ module _ (s : Bytes) (at b : ℕ) where
     pub byte_miss : (get_or s at 0 ≡ b → ⊥) → Got 1 s at (Err (Bad at)) (byte_p b (drop at s))
     unfolding byte_p
     byte_miss e = record { says = (omega arith, h, rw (drop-cons s at 0 h, ne_eqb b (get_or s at 0) (λ q. e (sym q)))) }
-
--- bytes: k of w are read
-pub Rest : Bytes → ℕ → Bytes → ℕ → Type 0
-Rest s at w k = word_p w (drop at s) ≡ word_p (drop k w) (drop (at + k) s)
-
-pub rest_none : (s : Bytes) (at : ℕ) (w : Bytes) → Rest s at w 0
-unfolding Rest
-rest_none s at w = simp add-zero
-
-module _ (s : Bytes) (at : ℕ) (w : Bytes) (k : ℕ) (lt : k < length w) (r : Rest s at w k) where
-  pub rest_end : length s ≤ at + k → word_p w (drop at s) ≡ more
-  unfolding Rest word_p
-  rest_end h = r ∙ rw (drop-cons w k 0 lt, drop_of_length-le s h)
-
-  pub rest_miss : at + k < length s → (get_or s (at + k) 0 ≡ get_or w k 0 → ⊥) → word_p w (drop at s) ≡ bad (drop (at + k) s)
-  unfolding Rest word_p
-  rest_miss h e = r ∙ rw (drop-cons w k 0 lt, drop-cons s (at + k) 0 h, ne_eqb (get_or w k 0) (get_or s (at + k) 0) (λ q. e (sym q)))
-
-  pub rest_more : at + k < length s → get_or s (at + k) 0 ≡ get_or w k 0 → Rest s at w (k + 1)
-  unfolding Rest word_p
-  rest_more h e =
-      let y : at + (k + 1) ≡ suc (at + k) = omega arith in
-      rw (y, add-one) (r ∙ rw (drop-cons w k 0 lt, drop-cons s (at + k) 0 h, eq-eqb (get_or w k 0) (get_or s (at + k) 0) (sym e)))
-
-pub rest_done : (s : Bytes) (at : ℕ) (w : Bytes) (k : ℕ) → length w ≤ k → Rest s at w k → word_p w (drop at s) ≡ done 0 (drop (at + k) s)
-unfolding Rest word_p
-rest_done s at w k h r = r ∙ rw (drop_of_length-le w h)

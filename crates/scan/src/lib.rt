@@ -1,9 +1,10 @@
 // The smallest readers: byte classes, glue, a byte, a fixed string, a name. Each says what the model at its place says.
+// A slice and a place in it stay two parameters, here and in the readers above: the models speak of `drop at s`, so a struct of both would say it no plainer.
 #![tactic(auto)]
 
 ghost use Rattle.std.specs.Prelude.{◌≡◌, ◌≤◌, length, drop};
 ghost use Rattle.grammar.specs.Glue.{is_glue};
-ghost use Rattle.grammar.specs.Name.{letter, name_start, name_byte};
+ghost use Rattle.grammar.specs.Name.{name_start, name_byte};
 ghost use Rattle.scan.specs.Pieces.{Skipped, Got, GotTok, byte_p, word_p, glue_tok, name_tok, glued_p};
 
 use grammar::Limits;
@@ -22,46 +23,21 @@ pub type Step = Result<usize, Stop>;
 pub fn is_glue(b: u8) -> bool
     ensures { result ≡ is_glue b }
 {
-    if b' ' < b {
-        return false;
-    }
-    match b {
-        b' ' | b'\t' | b'\r' | b'\n' => true,
-        _ => false,
-    }
+    b <= b' ' && matches!(b, b' ' | b'\t' | b'\r' | b'\n')
 }
 
 /// Whether a name may start with b.
 pub fn is_name_start(b: u8) -> bool
     ensures { result ≡ name_start b }
 {
-    match b {
-        b'a'..=b'z' | b'A'..=b'Z' | b'_' => true,
-        _ => false,
-    }
-}
-
-/// A letter, which most bytes of names are.
-fn is_letter(b: u8) -> bool
-    ensures { result ≡ letter b }
-{
-    match b {
-        b'a'..=b'z' | b'A'..=b'Z' => true,
-        _ => false,
-    }
+    b.is_ascii_alphabetic() || b == b'_'
 }
 
 /// Whether b may stand in a name behind its first byte.
 pub fn is_name_byte(b: u8) -> bool
     ensures { result ≡ name_byte b }
 {
-    if is_letter(b) {
-        return true;
-    }
-    match b {
-        b'_' | b'-'..=b'.' | b'0'..=b':' => true,
-        _ => false,
-    }
+    b.is_ascii_alphabetic() || matches!(b, b'_' | b'-'..=b'.' | b'0'..=b':')
 }
 
 /// Where the glue at `at` ends.
@@ -69,16 +45,12 @@ pub fn skip_glue(s: &[u8], at: usize) -> usize
     requires { at ≤ length s.now }
     ensures { Skipped s.now at result }
 {
-    let mut i = at;
-    while i < s.len() {
-        let b = s[i];
-        if is_glue(b) {
-            i += 1;
-        } else {
+    for i in at..s.len() {
+        if !is_glue(s[i]) {
             return i;
         }
     }
-    i
+    s.len()
 }
 
 /// Glue, and a byte behind it that is none.
@@ -115,23 +87,18 @@ pub fn name(s: &[u8], at: usize) -> Step
     if s.len() <= at {
         return Err(Stop::Open);
     }
-    let b = s[at];
-    if is_name_start(b) {
-        let mut i = at + 1;
-        while i < s.len() {
-            let b = s[i];
-            if is_name_byte(b) {
-                if Limits::NAME <= i - at {
-                    return Ok(i);
-                }
-                i += 1;
-            } else {
-                return Ok(i);
-            }
-        }
-        return Err(Stop::Open);
+    if !is_name_start(s[at]) {
+        return Err(Stop::Bad(at));
     }
-    Err(Stop::Bad(at))
+    for i in at + 1..s.len() {
+        if !is_name_byte(s[i]) {
+            return Ok(i);
+        }
+        if Limits::NAME <= i - at {
+            return Ok(i);
+        }
+    }
+    Err(Stop::Open)
 }
 
 /// The bytes of word.
@@ -139,17 +106,11 @@ pub fn literal(s: &[u8], at: usize, word: &[u8]) -> Step
     requires { at ≤ length s.now }
     ensures { Got (length word.now) s.now at result (word_p word.now (drop at s.now)) }
 {
-    let mut k = 0;
-    while k < word.len() {
-        if s.len() - at <= k {
-            return Err(Stop::Open);
-        }
-        if s[at + k] != word[k] {
-            return Err(Stop::Bad(at + k));
-        }
-        k += 1;
+    let mut i = at;
+    for &b in word {
+        i = byte(s, i, b)?;
     }
-    Ok(at + k)
+    Ok(i)
 }
 
 /// Glue and the byte b.

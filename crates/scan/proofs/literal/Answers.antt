@@ -1,18 +1,18 @@
 use native.Mathlib.Omega.{arith}
-use Rattle.scan.proofs.Walk.{rest_none, rest_end, rest_miss, rest_more, rest_done}
+use Rattle.scan.proofs.Chain.{exits, known, rest_none, rest_fails, rest_more, rest_done}
 use Rattle.scan.proofs.literal.Goals as goal
 
-pub loop-k-init : goal.loop-k-init
-loop-k-init c = (omega arith, omega arith, rest_none _ _ _)
+pub loop-b-init : goal.loop-b-init
+loop-b-init c = (omega arith, omega arith, rest_none _ _ _)
 
-pub returns-then-s-at : goal.returns-then-s-at
-returns-then-s-at c = record { says = rest_end _ _ _ _ c.loop-k-test.true c.loop-k.invariant.2 (omega arith) }
+pub returns-in_err-i : goal.returns-in_err-i
+returns-in_err-i c = rw (exits c.from_residual.ensures.1) (rest_fails _ _ _ _ _ c.loop-b-test.true c.loop-b.invariant.2 (omega arith) c.in_err-i.ensures)
 
-pub returns-then-s-at-2 : goal.returns-then-s-at-2
-returns-then-s-at-2 c = record { says = (omega arith, omega arith, rest_miss _ _ _ _ c.loop-k-test.true c.loop-k.invariant.2 (omega arith) c.if-s-at-2.true) }
-
-pub loop-k-preserved : goal.loop-k-preserved
-loop-k-preserved c = (omega arith, omega arith, rest_more _ _ _ _ c.loop-k-test.true c.loop-k.invariant.2 (omega arith) c.if-s-at-2.false)
+pub loop-b-preserved : goal.loop-b-preserved
+loop-b-preserved c =
+    let g = known c.in_ok-i.was c.byte.ensures in
+    let a = g.says.1 in
+    (omega arith, g.says.2, rest_more _ _ _ _ _ c.loop-b-test.true c.loop-b.invariant.2 g)
 
 pub returns : goal.returns
-returns c = record { says = (0, omega arith, omega arith, rest_done _ _ _ _ c.loop-k-test.false c.loop-k.invariant.2) }
+returns c = record { says = (0, omega arith, omega arith, rest_done _ _ _ _ _ c.loop-b-test.false c.loop-b.invariant.2) }

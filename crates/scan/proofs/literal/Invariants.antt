@@ -1,10 +1,7 @@
-use Prim.Native.Nat.{◌+◌, ◌-◌, ◌≤◌}
+use Prim.Native.Nat.{◌+◌, ◌≤◌}
 use lib.ListN.{length}
-use Rattle.scan.proofs.Walk.{Rest}
+use Rattle.scan.proofs.Chain.{Rest}
 use Rattle.scan.proofs.literal.Given as goal
 
-abbrev pub invariant-loop-k : goal.invariant-loop-k
-invariant-loop-k l = (l.k ≤ length l.word) × (l.at + l.k ≤ length l.s) × Rest l.s l.at l.word l.k
-
-abbrev pub decreases-loop-k : goal.decreases-loop-k
-decreases-loop-k l = length l.word - l.k
+abbrev pub invariant-loop-b : goal.invariant-loop-b
+invariant-loop-b l = (l.at + l.b-index ≤ l.i) × (l.i ≤ length l.s) × Rest l.s l.at l.word l.b-index l.i

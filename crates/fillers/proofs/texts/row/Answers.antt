@@ -8,5 +8,5 @@ use Rattle.fillers.proofs.texts.row.Goals as goal
 pub returns-then-s-i-eq93 : goal.returns-then-s-i-eq93
 returns-then-s-i-eq93 c = rw (eq-eqb 93 _ (sym c.if-s-i-eq93.true)) (omega arith)
 
-pub returns : goal.returns
-returns c = rw (ne_eqb 93 _ (λ e. c.if-s-i-eq93.false (sym e)))
+pub returns-else-s-i-eq93 : goal.returns-else-s-i-eq93
+returns-else-s-i-eq93 c = rw (ne_eqb 93 _ (λ e. c.if-s-i-eq93.false (sym e)))

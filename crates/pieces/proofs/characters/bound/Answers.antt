@@ -6,5 +6,5 @@ use Rattle.pieces.proofs.characters.bound.Goals as goal
 pub returns-then-odd-b : goal.returns-then-odd-b
 returns-then-odd-b c = rw (eq-eqb _ _ c.if-odd-b.true)
 
-pub returns : goal.returns
-returns c = rw (ne_eqb _ _ c.if-odd-b.false)
+pub returns-else-odd-b : goal.returns-else-odd-b
+returns-else-odd-b c = rw (ne_eqb _ _ c.if-odd-b.false)

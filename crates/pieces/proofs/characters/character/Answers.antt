@@ -8,10 +8,10 @@ pub returns-then-s-at : goal.returns-then-s-at
 returns-then-s-at c = char_open _ _ _ c.if-s-at.true
 
 pub returns-then-is_plain : goal.returns-then-is_plain
-returns-then-is_plain c = char_plain _ _ _ c.if-s-at.false _ c.wide.ensures c.in-0-to-127.if-b-lt128-own.true (sym c.is_plain.ensures ∙ c.if-is_plain.true)
+returns-then-is_plain c = char_plain _ _ _ c.if-s-at.false _ c.from.ensures c.in-0-to-127.if-b-lt128-own.true (sym c.is_plain.ensures ∙ c.if-is_plain.true)
 
-pub returns-in-0-to-127 : goal.returns-in-0-to-127
-returns-in-0-to-127 c = char_not _ _ _ c.if-s-at.false c.in-0-to-127.if-b-lt128-own.true (sym c.is_plain.ensures ∙ c.if-is_plain.false)
+pub returns-else-is_plain : goal.returns-else-is_plain
+returns-else-is_plain c = char_not _ _ _ c.if-s-at.false c.in-0-to-127.if-b-lt128-own.true (sym c.is_plain.ensures ∙ c.if-is_plain.false)
 
 pub returns-in-194-to-223 : goal.returns-in-194-to-223
 returns-in-194-to-223 c = char_two _ _ _ c.if-s-at.false c.in-194-to-223.if-b-lt194-own.false c.in-194-to-223.if-b-lt224-own.true c.two.ensures

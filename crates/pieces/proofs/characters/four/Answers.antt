@@ -30,4 +30,4 @@ next6-requires-2 c =
     let z = in_tail (known c.in_ok-e.was c.tail-3.ensures) in (omega arith, z.0, z.1)
 
 pub returns : goal.returns
-returns c = rw (c.next6-2.ensures, c.next6.ensures, c.next6-v.ensures, c.wide.ensures) (four-read _ c.requires.0 c.requires.1 _ _ c.bound.ensures c.bound-2.ensures _ _ (known c.in_ok-c.was c.tail.ensures) (known c.in_ok-d.was c.tail-2.ensures) (known c.in_ok-e.was c.tail-3.ensures))
+returns c = rw (c.next6-2.ensures, c.next6.ensures, c.next6-v.ensures, c.from.ensures) (four-read _ c.requires.0 c.requires.1 _ _ c.bound.ensures c.bound-2.ensures _ _ (known c.in_ok-c.was c.tail.ensures) (known c.in_ok-d.was c.tail-2.ensures) (known c.in_ok-e.was c.tail-3.ensures))

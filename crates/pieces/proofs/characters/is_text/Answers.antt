@@ -1,7 +1,6 @@
 -- Below the space the class is computed against glue; above it, over the whole range but for `<` and `&`.
 use mathlib.Core.Path.{◌∙◌}
 use mathlib.Core.List.{[], ◌∷◌}
-use mathlib.Core.Logic.{⊎_elim}
 use mathlib.Core.Bool.{Bool, true, false}
 use Prim.Native.Nat.{ℕ}
 use native.Mathlib.Omega.{arith}
@@ -9,7 +8,7 @@ use Rattle.grammar.specs.Bytes.{within}
 use Rattle.grammar.specs.Character.{is_char}
 use Rattle.grammar.specs.Value.{banned}
 use Rattle.model.specs.Characters.{plain_byte}
-use Rattle.scan.proofs.Classes.{ranged, ranged_but}
+use Rattle.scan.proofs.Classes.{keyed, ranged, ranged_but}
 use Rattle.pieces.proofs.CharacterLaws.{text_low}
 use Rattle.pieces.proofs.characters.is_text.Goals as goal
 
@@ -17,23 +16,17 @@ use Rattle.pieces.proofs.characters.is_text.Goals as goal
 abbrev t : ℕ → Bool
 t b = plain_byte (banned 60) b
 
-pub returns-then-b-lt32 : goal.returns-then-b-lt32
-returns-then-b-lt32 c = c.is_glue.ensures ∙ text_low _ c.if-b-lt32.true
+pub returns-in-0-to-31 : goal.returns-in-0-to-31
+returns-in-0-to-31 c = c.is_glue.ensures ∙ text_low _ (omega arith)
 
-pub returns-then-b-eq60 : goal.returns-then-b-eq60
+pub returns-in-60 : goal.returns-in-60
 unfolding plain_byte banned is_char within
-returns-then-b-eq60 c = ranged t false 60 1 tt c.args.b (omega arith) (omega arith)
+returns-in-60 c = keyed t false (38 ∷ 60 ∷ []) tt c.args.b c.in-60.in-60-own.keys1
 
-pub returns-then-b-eq38 : goal.returns-then-b-eq38
+pub returns-in-60-2 : goal.returns-in-60-2
 unfolding plain_byte banned is_char within
-returns-then-b-eq38 c = ranged t false 38 1 tt c.args.b (omega arith) (omega arith)
+returns-in-60-2 c = ranged t false 128 128 tt c.args.b (omega arith) (omega arith)
 
-pub returns-then-b-gt127 : goal.returns-then-b-gt127
+pub returns-in_default : goal.returns-in_default
 unfolding plain_byte banned is_char within
-returns-then-b-gt127 c = ranged t false 128 128 tt c.args.b (omega arith) (omega arith)
-
-pub returns : goal.returns
-unfolding plain_byte banned is_char within
-returns c =
-    ranged_but t true (38 ∷ 60 ∷ []) 32 96 tt c.args.b (omega arith) (omega arith)
-    (⊎_elim c.if-b-eq38.false c.if-b-eq60.false)
+returns-in_default c = ranged_but t true (38 ∷ 60 ∷ []) 32 96 tt c.args.b (omega arith) (omega arith) c.in_default.in_default-own.rest.1

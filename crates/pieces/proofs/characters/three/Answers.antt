@@ -22,4 +22,4 @@ next6-requires c =
     let z = three_third_bounds _ c.requires.0 c.requires.1 _ _ c.bound.ensures c.bound-2.ensures _ _ (known c.in_ok-c.was c.tail.ensures) _ (c.bound-3.ensures ∙ rw c.top.ensures) (known c.in_ok-d.was c.tail-2.ensures) in (omega arith, z.0, z.1)
 
 pub returns : goal.returns
-returns c = rw (c.next6.ensures, c.next6-v.ensures, c.wide.ensures) (three_read _ c.requires.0 c.requires.1 _ _ c.bound.ensures c.bound-2.ensures _ _ (known c.in_ok-c.was c.tail.ensures) _ (c.bound-3.ensures ∙ rw c.top.ensures) (known c.in_ok-d.was c.tail-2.ensures))
+returns c = rw (c.next6.ensures, c.next6-v.ensures, c.from.ensures) (three_read _ c.requires.0 c.requires.1 _ _ c.bound.ensures c.bound-2.ensures _ _ (known c.in_ok-c.was c.tail.ensures) _ (c.bound-3.ensures ∙ rw c.top.ensures) (known c.in_ok-d.was c.tail-2.ensures))

@@ -13,4 +13,4 @@ pub next6-requires : goal.next6-requires
 next6-requires c = let z = in_tail (known c.in_ok-c.was c.tail.ensures) in (omega arith, z.0, z.1)
 
 pub returns : goal.returns
-returns c = rw (c.next6.ensures, c.wide.ensures) (two_read _ _ _ (known c.in_ok-c.was c.tail.ensures))
+returns c = rw (c.next6.ensures, c.from.ensures) (two_read _ _ _ (known c.in_ok-c.was c.tail.ensures))

@@ -9,8 +9,7 @@ use borrow.Author.Tests.{leb-true, leb-false}
 use Rattle.grammar.specs.Bytes.{Bytes}
 use Rattle.grammar.specs.Value.{banned}
 use Rattle.model.specs.Characters.{plain_byte}
-use Rattle.pieces.specs.Parts.{Plain}
-use Rattle.fillers.specs.Fills.{PlainRun}
+use Rattle.pieces.specs.Parts.{Plain, PlainRun}
 
 module _ (q : ℕ) (s : Bytes) (at : ℕ) where
   pub run_none : at ≤ length s → PlainRun q s at at

@@ -1,7 +1,7 @@
 -- The invariant: what lies behind is plain.
 use native.Mathlib.Omega.{arith}
-use Rattle.fillers.proofs.RunLaws.{run_none, run_many}
-use Rattle.fillers.proofs.runs.eights.Goals as goal
+use Rattle.pieces.proofs.RunLaws.{run_none, run_many}
+use Rattle.pieces.proofs.runs.eights.Goals as goal
 
 pub loop-i-init : goal.loop-i-init
 loop-i-init c = run_none _ _ _ c.requires

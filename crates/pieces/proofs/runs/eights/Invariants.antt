@@ -1,7 +1,7 @@
 use Prim.Native.Nat.{◌-◌}
 use lib.ListN.{length}
-use Rattle.fillers.specs.Fills.{PlainRun}
-use Rattle.fillers.proofs.runs.eights.Given as goal
+use Rattle.pieces.specs.Parts.{PlainRun}
+use Rattle.pieces.proofs.runs.eights.Given as goal
 
 abbrev pub invariant-loop-i : goal.invariant-loop-i
 invariant-loop-i l = PlainRun l.q l.s l.at l.i
