@@ -10,7 +10,6 @@ use lib.ListN.{length, get_or, take, drop, replicate, drop_of_length-le}
 use lib.Seq.{drop-cons, take_all}
 use Rattle.std.proofs.Common.{length-drop}
 use Rattle.std.proofs.lemmas.List.{drop-drop}
-use Rattle.std.specs.List.{list_all}
 use Rattle.number.specs.Bytes.{Bytes, and, hex, all}
 use Rattle.number.specs.Guid.{Place, hex_place, hyphen_place, places, joined, may, filled, guid_of}
 use Rattle.numerals.proofs.AheadLaws.{rest_is}
@@ -85,7 +84,21 @@ pub not_36 : (v : Bytes) → (length v ≡ 36 → ⊥) → false ≡ guid_of v
 unfolding guid_of
 not_36 v h = filled_length places v h
 
-pub all_same : (class : ℕ → Bool) (v : Bytes) → list_all class v ≡ all class v
-unfolding all
-all_same class [] = refl
-all_same class (b ∷ v) = cases (class b) (λ t. rw t (all_same class v)) (λ t. rw t)
+-- digits so far, and those left
+joined_more : (ok r x y : Bool) → y ≡ and r x → and (ok && r) x ≡ and ok y
+joined_more true r x y e = sym e
+joined_more false r x y e = refl
+
+module _ (v : Bytes) {i : ℕ} (ok : Bool) (so_far : and ok (all hex (drop i v)) ≡ all hex v) where
+  pub hex_more : {r : Bool} → i < length v → r ≡ hex (get_or v i 0) → and (ok && r) (all hex (drop (i + 1) v)) ≡ all hex v
+  unfolding all
+  hex_more {r} l e =
+      let d : drop i v ≡ get_or v i 0 ∷ drop (i + 1) v = rw add-one (drop-cons v i 0 l) in
+      let s : all hex (drop i v) ≡ and r (all hex (drop (i + 1) v)) = ap (all hex) d ∙ ap (λ (z : Bool). and z (all hex (drop (i + 1) v))) (sym e) in
+      joined_more ok r (all hex (drop (i + 1) v)) (all hex (drop i v)) s ∙ so_far
+
+  pub hex_end : length v ≤ i → ok ≡ all hex v
+  unfolding all
+  hex_end l =
+      let d : drop i v ≡ [] = drop_of_length-le v l in
+      sym (and_true ok) ∙ ap (λ (w : Bytes). and ok (all hex w)) (sym d) ∙ so_far

@@ -1,11 +1,13 @@
-use mathlib.Core.Path.{◌∙◌}
-use borrow.Author.Tests.{tests}
-use Rattle.std.proofs.Common.{rules}
-use Rattle.std.proofs.lemmas.Iterator.{YieldsList-from_slice}
-use Rattle.std.proofs.lemmas.Iterator.Search.{all_from_yields_List}
-use Rattle.number.specs.Bytes.{hex}
-use Rattle.shapes.proofs.GuidLaws.{all_same}
+-- The bytes passed and those left say it together.
+use mathlib.Core.Path.{refl}
+use Rattle.shapes.proofs.GuidLaws.{hex_more, hex_end}
 use Rattle.shapes.proofs.guid.all_hex.Goals as goal
 
+pub loop-b-init : goal.loop-b-init
+loop-b-init c = refl
+
+pub loop-b-preserved : goal.loop-b-preserved
+loop-b-preserved c = hex_more c.args.v.now c.loop-b.ok c.loop-b.invariant c.loop-b-test.true c.is_hex-ok.ensures
+
 pub returns : goal.returns
-returns c = all_from_yields_List hex _ _ _ c.all.ensures.ran (YieldsList-from_slice c.args.v.now (cc)) (λ x b q k. search (rules, tests)) ∙ all_same hex c.args.v.now
+returns c = hex_end c.args.v.now c.loop-b.ok c.loop-b.invariant c.loop-b-test.false
