@@ -59,10 +59,8 @@ fn yes(rt: &impl Print, is: bool) {
 
 fn scan(start: Scan, v: &[u8], from: usize, to: usize) -> Scan {
     let mut s = start;
-    let mut i = from;
-    while i < to {
+    for i in from..to {
         s = s.step(byte(v, i));
-        i += 1;
     }
     s
 }
