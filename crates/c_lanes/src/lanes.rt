@@ -17,16 +17,8 @@ pub fn tryphomel_upstream(
     ensures { Lent (fresh U) side.new state.new offered.new running.new length.new forecast.new }
 {
     let up = Lane::upstream();
-    let o = up.offered;
-    let r = up.running;
-    let kept = up.forecast;
-    let f = kept.bytes;
     *side = up.side;
-    *state = up.state;
-    *offered = o;
-    *running = r;
-    *length = kept.length;
-    *forecast = f;
+    lend(up, state, offered, running, length, forecast);
 }
 
 /// A new lane of the downstream machine.
@@ -41,16 +33,8 @@ pub fn tryphomel_downstream(
     ensures { Lent (fresh D) side.new state.new offered.new running.new length.new forecast.new }
 {
     let down = Lane::downstream();
-    let o = down.offered;
-    let r = down.running;
-    let kept = down.forecast;
-    let f = kept.bytes;
     *side = down.side;
-    *state = down.state;
-    *offered = o;
-    *running = r;
-    *length = kept.length;
-    *forecast = f;
+    lend(down, state, offered, running, length, forecast);
 }
 
 /// The lane after its connection was lost.
@@ -64,28 +48,38 @@ pub fn tryphomel_lost(
 )
     ensures { Lent (blank (lane_of side state.old offered.old running.old length.old forecast.old)) side state.new offered.new running.new length.new forecast.new }
 {
-    let o = *offered;
-    let r = *running;
-    let f = *forecast;
-    let kept = Forecast {
-        length: *length,
-        bytes: f,
-    };
     let lane = Lane {
-        side: side,
+        side,
         state: *state,
-        offered: o,
-        running: r,
-        forecast: kept,
+        offered: *offered,
+        running: *running,
+        forecast: Forecast {
+            length: *length,
+            bytes: *forecast,
+        },
     };
     let next = lane.lost();
-    let o = next.offered;
-    let r = next.running;
-    let kept = next.forecast;
-    let f = kept.bytes;
-    *state = next.state;
+    lend(next, state, offered, running, length, forecast);
+}
+
+// A lane put into the parts that are lent, beside its side.
+fn lend(
+    lane: Lane,
+    state: &mut u8,
+    offered: &mut [u8; 36],
+    running: &mut [u8; 36],
+    length: &mut u8,
+    forecast: &mut [u8; 80],
+)
+    ensures { Lent lane lane.side state.new offered.new running.new length.new forecast.new }
+{
+    // Each array by a variable: the borrow checker covers no field that is stored straight.
+    let o = lane.offered;
+    let r = lane.running;
+    let f = lane.forecast.bytes;
+    *state = lane.state;
     *offered = o;
     *running = r;
-    *length = kept.length;
+    *length = lane.forecast.length;
     *forecast = f;
 }

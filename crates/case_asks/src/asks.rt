@@ -83,9 +83,7 @@ fn in_order(rt: &impl Print, cells: [u64; NUMBERS], id: [u8; 36], range: Range) 
 }
 
 fn values(rt: &impl Print, m: Message) {
-    let cells = m.cells;
-    let id = m.id;
-    in_order(rt, cells, id, rows::data::rows_of(m.kind));
+    in_order(rt, m.cells, m.id, rows::data::rows_of(m.kind));
 }
 
 fn checked(rt: &impl Print, c: Checked) {
@@ -108,10 +106,8 @@ fn check(rt: &impl Print, v: &[u8]) {
 
 // Writes in the first bytes of a buffer.
 fn written(m: Message, texts: &[u8], out: &mut [u8], room: usize) -> Written {
-    if out.len() < room {
-        return writes::write(m, texts, out);
-    }
-    writes::write(m, texts, &mut out[..room])
+    let end = room.min(out.len());
+    writes::write(m, texts, &mut out[..end])
 }
 
 fn write(rt: &impl Print, s: &[u8], texts: &[u8]) {
@@ -129,16 +125,16 @@ fn moved(rt: &impl Print, word: &[u8], before: Lane, m: Moved) {
     small(rt, word, m.refusal);
     small(rt, b" order ", m.order);
     put(rt, b" ");
-    let after = m.lane;
-    show::record(rt, after);
-    show::change(rt, before, after);
+    show::record(rt, m.lane);
+    show::change(rt, before, m.lane);
 }
 
 // The record from 5 on, a kind and an id.
 fn moves(rt: &impl Print, s: &[u8], v: &[u8]) {
-    let mut lane = record(s, 5, b"");
-    let none = Forecast::none();
-    lane.forecast = none;
+    let lane = Lane {
+        forecast: Forecast::none(),
+        ..record(s, 5, b"")
+    };
     let n = decimal(s, 7);
     let k = kind(s, n.next + 5);
     let kind = low(k.value);

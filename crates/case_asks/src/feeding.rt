@@ -2,12 +2,11 @@
 use case_words::show::{put, small, told};
 use lines::Listed;
 
-/// Bytes at..len of the input are in the window; the last line is printed or not.
+/// Bytes at..len of the input are in the window.
 #[derive(Clone, Copy)]
 struct Window {
     at: usize,
     len: usize,
-    done: bool,
 }
 
 fn line(rt: &impl Print, start: usize, end: usize, kind: u8, refusal: u8) {
@@ -25,27 +24,16 @@ fn end_line(rt: &impl Print, place: usize, answer: u8) {
 
 // a + b, at most `most`.
 fn sum(a: usize, b: usize, most: usize) -> usize {
-    if most <= a {
-        return most;
-    }
-    if most - a <= b {
-        return most;
-    }
-    a + b
+    a.saturating_add(b).min(most)
 }
 
-// One step of the listing of s. Where a line is short of bytes the window grows.
-fn turn(rt: &impl Print, s: &[u8], w: Window, more: usize) -> Window {
-    let at = w.at;
-    let len = w.len;
-    if s.len() < len {
-        return w;
+// One step of the listing of s, and the window behind it, if the last line is not printed. Where a line is short of bytes the window grows.
+fn turn(rt: &impl Print, s: &[u8], w: Window, more: usize) -> Option<Window> {
+    let Window { at, len } = w;
+    if s.len() < len || len < at {
+        return None;
     }
-    if len < at {
-        return w;
-    }
-    let listed = lists::list_step(&s[at..len], len == s.len());
-    match listed {
+    match lists::list_step(&s[at..len], len == s.len()) {
         Listed::Line {
             start,
             end,
@@ -53,41 +41,29 @@ fn turn(rt: &impl Print, s: &[u8], w: Window, more: usize) -> Window {
             refusal,
         } => {
             line(rt, sum(at, start, len), sum(at, end, len), kind, refusal);
-            Window {
+            Some(Window {
                 at: sum(at, end, len),
-                len: len,
-                done: false,
-            }
+                len,
+            })
         }
-        Listed::Drop { glue } => Window {
+        Listed::Drop { glue } => Some(Window {
             at: sum(at, glue, len),
             len: sum(len, more, s.len()),
-            done: false,
-        },
+        }),
         Listed::End { at: place, answer } => {
             end_line(rt, sum(at, place, len), answer);
-            Window {
-                at: at,
-                len: len,
-                done: true,
-            }
+            None
         }
     }
 }
 
 fn list(rt: &impl Print, s: &[u8], more: usize) {
-    let mut w = Window {
-        at: 0,
-        len: 0,
-        done: false,
-    };
-    let mut turns = u64::MAX;
-    while 0 < turns {
-        w = turn(rt, s, w, more);
-        if w.done {
+    let mut window = Some(Window { at: 0, len: 0 });
+    for _ in 0..u64::MAX {
+        let Some(w) = window else {
             return;
-        }
-        turns -= 1;
+        };
+        window = turn(rt, s, w, more);
     }
 }
 

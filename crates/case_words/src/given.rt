@@ -2,7 +2,7 @@
 // number (of features their bits 1, 2, 4), PLACE+LENGTH of a text in the line's bytes, the letter of an id. What is left out is absent.
 ghost use Rattle.std.specs.Prelude.{◌≤◌};
 
-use crate::line::{Figures, byte, decimal, find, is_digit, low, wide};
+use crate::line::{Figures, byte, decimal, find, low};
 use lane::{Forecast, Lane, Side};
 use message::Message;
 use message::cells::NUMBERS;
@@ -50,24 +50,18 @@ pub fn id(letter: u8) -> [u8; 36] {
 
 /// The kind from a place on.
 pub fn kind(s: &[u8], from: usize) -> Figures {
-    if s.len() <= from {
+    if s.len() <= from || 1000000 < from {
         return Figures {
             value: 0,
             next: from,
         };
     }
-    if 1000000 < from {
-        return Figures {
-            value: 0,
-            next: from,
-        };
-    }
-    if is_digit(s[from]) {
+    if s[from].is_ascii_digit() {
         return decimal(s, from);
     }
     let end = find(s, from, b' ');
     Figures {
-        value: wide(rows::kind_named(&s[from..end])),
+        value: u64::from(rows::kind_named(&s[from..end])),
         next: end,
     }
 }
@@ -76,49 +70,41 @@ fn number(s: &[u8], from: usize, letter: u8) -> Value
     requires { from ≤ 1000001 }
 {
     let n = decimal(s, from);
-    if byte(s, n.next) == b'+' {
-        let len = decimal(s, n.next + 1);
-        return Value {
-            there: 1,
-            a: n.value,
-            b: len.value,
-            letter: letter,
-            next: len.next,
-        };
-    }
-    Value {
+    let value = Value {
         there: 1,
         a: n.value,
         b: 0,
-        letter: letter,
+        letter,
         next: n.next,
+    };
+    if byte(s, n.next) != b'+' {
+        return value;
+    }
+    let len = decimal(s, n.next + 1);
+    Value {
+        b: len.value,
+        next: len.next,
+        ..value
     }
 }
 
 // A word that is no number.
 fn mark(b: u8, letter: u8, at: usize, next: usize) -> Value {
+    let absent = Value {
+        there: 0,
+        a: 0,
+        b: 0,
+        letter,
+        next,
+    };
     match b {
-        b'-' => Value {
-            there: 0,
-            a: 0,
-            b: 0,
-            letter: letter,
-            next: next,
-        },
+        b'-' => absent,
         b'A'..=b'Z' => Value {
             there: 1,
-            a: 0,
-            b: 0,
             letter: b,
-            next: next,
+            ..absent
         },
-        _ => Value {
-            there: 0,
-            a: 0,
-            b: 0,
-            letter: letter,
-            next: at,
-        },
+        _ => Value { next: at, ..absent },
     }
 }
 
@@ -128,7 +114,7 @@ fn word(s: &[u8], at: usize, letter: u8) -> Value {
         return mark(b'-', letter, at, at);
     }
     let b = byte(s, at + 1);
-    if is_digit(b) {
+    if b.is_ascii_digit() {
         return number(s, at + 1, letter);
     }
     mark(b, letter, at, at + 2)
@@ -148,11 +134,10 @@ pub fn message(s: &[u8], from: usize) -> Message {
         letter = c.letter;
         at = c.next;
     }
-    let id = id(letter);
     Message {
         kind: low(k.value),
-        cells: cells,
-        id: id,
+        cells,
+        id: id(letter),
     }
 }
 
@@ -180,11 +165,9 @@ pub fn record(s: &[u8], at: usize, v: &[u8]) -> Lane
     let offered = id(byte(s, n.next + 1));
     let running = id(byte(s, n.next + 3));
     let length = decimal(s, n.next + 5);
-    let kept = forecast(v);
-    let bytes = kept.bytes;
     let forecast = Forecast {
         length: low(length.value),
-        bytes,
+        ..forecast(v)
     };
     Lane {
         side,

@@ -18,10 +18,7 @@ struct Run {
 
 /// The byte i; 0 behind the end.
 pub fn byte(s: &[u8], i: usize) -> u8 {
-    if s.len() <= i {
-        return 0;
-    }
-    s[i]
+    s.get(i).copied().unwrap_or(0)
 }
 
 /// The first place of b at or behind a place, or the end.
@@ -29,20 +26,10 @@ pub fn find(s: &[u8], from: usize, b: u8) -> usize
     requires { from ≤ length s.now }
     ensures { (from ≤ result) × (result ≤ length s.now) }
 {
-    let mut i = from;
-    while i < s.len() {
-        if s[i] == b {
-            return i;
-        }
-        i += 1;
+    match s[from..].iter().position(|&x| x == b) {
+        Some(n) => from + n,
+        None => s.len(),
     }
-    i
-}
-
-pub fn wide(b: u8) -> u64
-    ensures { result < 256 }
-{
-    b as u64
 }
 
 /// The low byte of a number.
@@ -55,16 +42,9 @@ fn worth(b: u8) -> u64
     ensures { result < 16 }
 {
     match b {
-        b'0'..=b'9' => wide(b) % 16,
-        b'a'..=b'f' => (wide(b) + 9) % 16,
+        b'0'..=b'9' => u64::from(b - b'0'),
+        b'a'..=b'f' => u64::from(b - b'a') + 10,
         _ => 0,
-    }
-}
-
-pub fn is_digit(b: u8) -> bool {
-    match b {
-        b'0'..=b'9' => true,
-        _ => false,
     }
 }
 
@@ -76,7 +56,7 @@ pub fn decimal(s: &[u8], from: usize) -> Figures
     let mut n: u64 = 0;
     for i in 0..20 {
         let b = byte(s, from + i);
-        if is_digit(b) {
+        if b.is_ascii_digit() {
             n = n % 1000000000000000000 * 10 + worth(b);
         } else {
             return Figures {
@@ -115,33 +95,24 @@ fn piece(s: &[u8], at: usize) -> Run
     requires { at ≤ 1000000 }
     ensures { at < result.next }
 {
-    if byte(s, at) == b'\\' {
-        if byte(s, at + 1) == b'{' {
-            let n = decimal(s, at + 2);
-            let p = one(s, n.next + 1);
-            return Run {
-                byte: p.byte,
-                count: n.value,
-                next: p.next,
-            };
-        }
+    if byte(s, at) == b'\\' && byte(s, at + 1) == b'{' {
+        let n = decimal(s, at + 2);
+        return Run {
+            count: n.value,
+            ..one(s, n.next + 1)
+        };
     }
     one(s, at)
 }
 
 // The byte b, that often, behind the first bytes, as far as there is room.
 fn fill(out: &mut [u8], len: usize, count: u64, b: u8) -> usize {
-    let mut i = len;
-    let mut left = count;
-    while 0 < left {
-        if out.len() <= i {
-            return i;
-        }
-        out[i] = b;
-        i += 1;
-        left -= 1;
+    if out.len() <= len {
+        return len;
     }
-    i
+    let end = len.saturating_add(count as usize).min(out.len());
+    out[len..end].fill(b);
+    end
 }
 
 /// The bytes that are written there, first in a buffer, and how many.

@@ -2,7 +2,6 @@
 ghost use Rattle.std.specs.Prelude.{◌≤◌, length};
 
 use crate::given::{A, B, C, X};
-use crate::line::wide;
 use lane::{Forecast, Lane, Side, State};
 
 pub fn put(rt: &impl Print, s: &[u8]) {
@@ -16,7 +15,7 @@ pub fn told(rt: &impl Print, word: &[u8], n: u64) {
 }
 
 pub fn small(rt: &impl Print, word: &[u8], n: u8) {
-    told(rt, word, wide(n));
+    told(rt, word, u64::from(n));
 }
 
 fn side(rt: &impl Print, n: u8) {
@@ -45,57 +44,36 @@ pub fn state(rt: &impl Print, n: u8) {
     }
 }
 
-fn same(a: &[u8], b: &[u8]) -> bool {
-    if a.len() != b.len() {
-        return false;
-    }
-    let mut i: usize = 0;
-    while i < a.len() {
-        if a[i] != b[i] {
-            return false;
-        }
-        i += 1;
-    }
-    true
-}
-
 // The letter of an id, `-` for zero bytes.
-fn mark(id: &[u8]) -> u8 {
-    if same(id, &[0u8; 36]) {
-        return b'-';
+fn mark(id: [u8; 36]) -> u8 {
+    if id == [0u8; 36] {
+        b'-'
+    } else if id == A {
+        b'A'
+    } else if id == B {
+        b'B'
+    } else if id == C {
+        b'C'
+    } else if id == X {
+        b'X'
+    } else {
+        b'?'
     }
-    if same(id, &A) {
-        return b'A';
-    }
-    if same(id, &B) {
-        return b'B';
-    }
-    if same(id, &C) {
-        return b'C';
-    }
-    if same(id, &X) {
-        return b'X';
-    }
-    b'?'
 }
 
 fn letter(rt: &impl Print, id: [u8; 36]) {
     put(rt, b" ");
-    put(rt, &[mark(&id)]);
+    put(rt, &[mark(id)]);
 }
 
 // How many bytes stand before the zeros at the end.
 fn filled(bytes: &[u8]) -> usize
     ensures { result ≤ length bytes.now }
 {
-    let mut n = bytes.len();
-    while 0 < n {
-        if bytes[n - 1] != 0 {
-            return n;
-        }
-        n -= 1;
+    match bytes.iter().rposition(|&b| b != 0) {
+        Some(last) => last + 1,
+        None => 0,
     }
-    0
 }
 
 fn word(rt: &impl Print, s: &[u8]) {
@@ -106,59 +84,29 @@ fn word(rt: &impl Print, s: &[u8]) {
 // A ForecastId by its length and its bytes, zeros at the end left out; nothing where there is none.
 fn named(rt: &impl Print, length: u8, bytes: &[u8]) {
     let n = filled(bytes);
-    if length == 0 {
-        if n == 0 {
-            return;
-        }
+    if length == 0 && n == 0 {
+        return;
     }
     small(rt, b" forecast ", length);
     word(rt, &bytes[..n]);
 }
 
 fn forecast(rt: &impl Print, f: Forecast) {
-    let bytes = f.bytes;
-    named(rt, f.length, &bytes);
+    named(rt, f.length, &f.bytes);
 }
 
 /// Side and state, the offered and the running id, the forecast.
 pub fn record(rt: &impl Print, lane: Lane) {
     side(rt, lane.side);
     state(rt, lane.state);
-    let offered = lane.offered;
-    letter(rt, offered);
-    let running = lane.running;
-    letter(rt, running);
-    let kept = lane.forecast;
-    forecast(rt, kept);
-}
-
-fn same_forecast(a: Forecast, b: Forecast) -> bool {
-    let mine = a.bytes;
-    let theirs = b.bytes;
-    (a.length == b.length) & same(&mine, &theirs)
-}
-
-fn same_id(a: [u8; 36], b: [u8; 36]) -> bool {
-    same(&a, &b)
-}
-
-// Whether two records are the same, bit for bit.
-fn kept(a: Lane, b: Lane) -> bool {
-    let mine = a.offered;
-    let theirs = b.offered;
-    let offered = same_id(mine, theirs);
-    let mine = a.running;
-    let theirs = b.running;
-    let running = same_id(mine, theirs);
-    let mine = a.forecast;
-    let theirs = b.forecast;
-    let forecast = same_forecast(mine, theirs);
-    (a.side == b.side) & (a.state == b.state) & offered & running & forecast
+    letter(rt, lane.offered);
+    letter(rt, lane.running);
+    forecast(rt, lane.forecast);
 }
 
 /// Whether the record stayed as it was.
 pub fn change(rt: &impl Print, before: Lane, after: Lane) {
-    if kept(before, after) {
+    if before == after {
         put(rt, b", same record");
     } else {
         put(rt, b", new record");
@@ -167,14 +115,7 @@ pub fn change(rt: &impl Print, before: Lane, after: Lane) {
 
 // Whether the bytes from a place on are still the filler.
 fn untouched(s: &[u8], from: usize) -> bool {
-    let mut i = from;
-    while i < s.len() {
-        if s[i] != b'~' {
-            return false;
-        }
-        i += 1;
-    }
-    true
+    s.iter().skip(from).all(|&b| b == b'~')
 }
 
 /// How many bytes of the room are written, and whether the others are as they were.
@@ -190,10 +131,7 @@ pub fn room(rt: &impl Print, out: &[u8], count: usize, room: usize) {
 
 /// The first bytes, in a line of their own.
 pub fn bytes(rt: &impl Print, word: &[u8], s: &[u8], len: usize) {
-    if s.len() < len {
-        return;
-    }
-    if len == 0 {
+    if s.len() < len || len == 0 {
         return;
     }
     put(rt, word);
