@@ -13,6 +13,7 @@ use rows::data::{NAMES, NUMBERS};
 use tags::attributes::PLACES;
 
 /// What stands behind the glue in front of an input, as message::Checked says, without what a message says.
+// Numbers, 0 where there is nothing to tell: `check_cells` promises them so (CellsChecked), as `Found` and `Checked` have them for C.
 #[derive(Clone, Copy)]
 pub struct Outcome {
     pub refusal: u8,
