@@ -1,4 +1,3 @@
 pub mod CellLaws
-pub mod NumberLaws
 pub mod IdLaws
 pub mod Theorems

@@ -2,7 +2,6 @@
 #![tactic(auto)]
 
 ghost use Rattle.std.specs.Prelude.{◌≡◌};
-ghost use Rattle.rows.specs.Coding.{numbers as coding, names as letters, Sound};
 ghost use Rattle.reads.specs.Held.{Held};
 ghost use Rattle.decides.specs.Deciding.{unruled, undecided, decided_by, Decides};
 ghost use Rattle.decides.specs.Ruled.{Stands, Rules};
@@ -11,7 +10,7 @@ use reader::answer::Answer;
 use reads::features::{Sort, sort_of};
 use reads::find::find;
 use reads::trying::try_row;
-use rows::data::{NAMES, NUMBERS, Row, name_at, row_at, rows_of};
+use rows::data::{Row, rows_of};
 use tags::attributes::PLACES;
 use value::Words;
 
@@ -69,49 +68,34 @@ fn made(kind: u8, x: Ruling) -> Decision
 }
 
 // Where the raw value of a row's attribute stands; a child has none.
-fn value_of(s: &[u8], base: usize, table: &[u16], count: usize, names: &[u8], row: Row) -> Words
-    requires { Held s.now base table.now count × (names.now ≡ letters) × Sound row }
-    ensures { Stands s.now base table.now count row result }
+fn value_of(s: &[u8], base: usize, table: &[u16], count: usize, row: &Row) -> Words
+    requires { Held s.now base table.now count }
+    ensures { Stands s.now base table.now count row.now result }
 {
-    let form = row.form;
-    if form == 0 {
+    if row.form.is_child() {
         return Words::Absent;
     }
-    let name = name_at(names, row.line as usize, row.len as usize);
-    find(s, base, table, count, 0, name)
+    find(s, base, table, count, 0, row.name)
 }
 
 // Tries the rows of the kind in order, up to the first that is refused.
-fn rule(
-    s: &[u8],
-    base: usize,
-    table: &[u16],
-    count: usize,
-    sort: Sort,
-    numbers: &[u64],
-    names: &[u8],
-) -> Ruling
-    requires { Held s.now base table.now count × (numbers.now ≡ coding) × (names.now ≡ letters) }
+fn rule(s: &[u8], base: usize, table: &[u16], count: usize, sort: Sort) -> Ruling
+    requires { Held s.now base table.now count }
     ensures { Rules s.now base table.now count sort result }
 {
-    let range = rows_of(sort.kind);
+    let rows = rows_of(sort.kind);
     let features = sort.features;
-    let from = range.from;
-    let n = range.count;
-    let mut i = 0;
-    while i < n {
-        let row = row_at(numbers, from + i);
-        let t = try_row(s, base, table, count, i, features, names, row);
+    for (i, row) in rows.iter().enumerate() {
+        let t = try_row(s, base, table, count, i, features, row);
         let refusal = t.refusal;
         if refusal != 0 {
-            let value = value_of(s, base, table, count, names, row);
+            let value = value_of(s, base, table, count, row);
             return Ruling {
                 refusal: refusal,
                 row: i,
                 value: value,
             };
         }
-        i += 1;
     }
     none()
 }
@@ -128,9 +112,7 @@ pub fn decided(s: &[u8]) -> Decision
             let to = o.to;
             let k = sort_of(s, o.from, to, o.inside);
             let kind = k.kind;
-            let numbers = NUMBERS;
-            let names = NAMES;
-            let x = rule(s, to, &table, o.count, k, &numbers, &names);
+            let x = rule(s, to, &table, o.count, k);
             made(kind, x)
         }
         Answer::More { start } => unread(1),

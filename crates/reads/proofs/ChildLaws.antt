@@ -24,8 +24,6 @@ use Rattle.reader.specs.declared.answer.Child.{Child}
 use Rattle.table.specs.Says.{present, noted, without, name_of, children_of, has_child, notes, featured}
 use Rattle.lane.specs.Names.{ServiceDescription}
 use Rattle.table.specs.Table.{table, kind_of}
-use Rattle.rows.specs.Coding.{LINES, WIDTH, names, name_at}
-use Rattle.rows.proofs.CodingLaws.{length_names}
 use Rattle.reads.specs.Children.{Holds, holds_none, holds, unnamed_child, First, no_child_case, first_child, FirstIn}
 use Rattle.reads.specs.Kept.{as_cell, lacking, features_of, NotesIn, SUPPORTED, Carried, Supports, Sorts}
 use Rattle.reads.specs.declared.features.Named.{Named}
@@ -195,30 +193,11 @@ bits x true false = refl
 bits x false true = refl
 bits x false false = refl
 
--- their names stand first on their lines
-abbrev pub on_line : ℕ → ℕ → Bytes
-on_line line n = take n (drop 0 (name_at line 24))
+finds : {s : Bytes} {inside : ℕ} {n : Bytes} {r : Named} {f : Forest} → FirstIn s inside n r → Holds s inside f → r.found ≡ has_child n f
+finds {f = f} p h = found_is (p.says f h)
 
-on_lines_lem : (on_line 0 20 ≡ text "FeatureBoardForecast") × (on_line 1 21 ≡ text "FeatureQueryBoardInfo") × (on_line 2 20 ≡ text "FeatureSendBoardInfo") × (on_line 6 17 ≡ SUPPORTED)
-unfolding names table
-on_lines_lem = (refl, refl, refl, refl)
-
--- there are so many lines, each of 24 bytes
-pub some_lines : (n : ℕ) → n < 20 → n < LINES
-unfolding table
-some_lines n h = let z = leb-true 20 LINES refl in omega arith
-
-pub length_line : (n : ℕ) → n < LINES → {l : Bytes} → l ≡ name_at n 24 → length l ≡ 24
-length_line n h e =
-    let z : n * WIDTH + 24 - n * WIDTH ≡ 24 = omega arith in
-    let d = length-drop (n * WIDTH) names in
-    ap length e ∙ ap (λ (m : ℕ). length (take m (drop (n * WIDTH) names))) z ∙ length-take-le 24 (drop (n * WIDTH) names) (omega (arith, length_names))
-
-finds : {s : Bytes} {inside : ℕ} {n n' m : Bytes} {r : Named} {f : Forest} → FirstIn s inside n r → n ≡ n' → n' ≡ m → Holds s inside f → r.found ≡ has_child m f
-finds {s} {inside} {r = r} {f = f} p e q h = found_is ((subst (λ (n : Bytes). FirstIn s inside n r) (e ∙ q) p).says f h)
-
-pub all_noted : {s : Bytes} {inside : ℕ} {x y z : Named} {l m n : Bytes} {a b d : ℕ} {r : Tried} → l ≡ on_line 0 20 → FirstIn s inside l x → m ≡ on_line 1 21 → FirstIn s inside m y → n ≡ on_line 2 20 → FirstIn s inside n z → a ≡ cond x.found 1 0 → b ≡ cond y.found 2 0 → d ≡ cond z.found 4 0 → r ≡ as_cell 0 (1 ∷ (a + (b + d)) ∷ 0 ∷ []) → NotesIn s inside r
-all_noted {s} {inside} {x} {y} {z} {r = r} i p j q k t e f g u = record { says = go }
+pub all_noted : {s : Bytes} {inside : ℕ} {x y z : Named} {a b d : ℕ} {r : Tried} → FirstIn s inside (text "FeatureBoardForecast") x → FirstIn s inside (text "FeatureQueryBoardInfo") y → FirstIn s inside (text "FeatureSendBoardInfo") z → a ≡ cond x.found 1 0 → b ≡ cond y.found 2 0 → d ≡ cond z.found 4 0 → r ≡ as_cell 0 (1 ∷ (a + (b + d)) ∷ 0 ∷ []) → NotesIn s inside r
+all_noted {s} {inside} {x} {y} {z} {r = r} p q t e f g u = record { says = go }
   where
     cell : Bool → Bool → Bool → Tried
     cell i j k = as_cell 0 (1 ∷ (cond i 1 0 + (cond j 2 0 + cond k 4 0)) ∷ 0 ∷ [])
@@ -231,18 +210,18 @@ all_noted {s} {inside} {x} {y} {z} {r = r} i p j q k t e f g u = record { says =
         let m = has_child (text "FeatureBoardForecast") o in
         let n = has_child (text "FeatureQueryBoardInfo") o in
         is ∙ bits x.found y.found z.found
-        ∙ ap (λ (b : Bool). features_of (present (noted b y.found z.found))) (finds p i on_lines_lem.0 h)
-        ∙ ap (λ (b : Bool). features_of (present (noted m b z.found))) (finds q j on_lines_lem.1 h)
-        ∙ ap (λ (b : Bool). features_of (present (noted m n b))) (finds t k on_lines_lem.2 h)
+        ∙ ap (λ (b : Bool). features_of (present (noted b y.found z.found))) (finds p h)
+        ∙ ap (λ (b : Bool). features_of (present (noted m b z.found))) (finds q h)
+        ∙ ap (λ (b : Bool). features_of (present (noted m n b))) (finds t h)
 
 lacks : (o : Bool) → lacking o ≡ features_of (without o)
 lacks true = refl
 lacks false = refl
 
 -- the first child SupportedFeatures
-module _ {s : Bytes} {inside : ℕ} {name : Bytes} {c : Named} (e : name ≡ on_line 6 17) (first : FirstIn s inside name c) where
+module _ {s : Bytes} {inside : ℕ} {c : Named} (first : FirstIn s inside SUPPORTED c) where
   search_says : (f : Forest) → Holds s inside f → First s SUPPORTED f c
-  search_says f h = subst (λ (n : Bytes). First s n f c) (e ∙ on_lines_lem.3) (first.says f h)
+  search_says f h = first.says f h
 
   pub supports_some : {r : Tried} → c.found ≡ true → NotesIn s c.inside r → Supports s inside r
   supports_some {r} q n = record { says = λ f h. go f (search_says f h) }

@@ -1,14 +1,11 @@
 // A child element by its name, and the features in it. They are looked for before the attributes are tried, so that the stack of both is not needed at once.
-ghost use Rattle.std.specs.Prelude.{◌≡◌, cond, ◌≤◌, ◌<◌, length};
-ghost use Rattle.rows.specs.Coding.{LINES, name_at};
+ghost use Rattle.std.specs.Prelude.{◌≡◌, cond, ◌≤◌, length};
 ghost use Rattle.reads.specs.Children.{unnamed_child, FirstIn};
 ghost use Rattle.reads.specs.Kept.{NotesIn, Supports, Sorts};
 
 use crate::tried::{Tried, number};
 use lane::Kind;
-use rows::data::{NAMES, WIDTH, name_at};
 use rows::kind_named;
-use rows::same::same;
 
 /// The first child of a name: whether there is one, and the place behind its start tag, 0 if it is an empty tag.
 #[derive(Clone, Copy)]
@@ -40,7 +37,7 @@ pub fn first_child(s: &[u8], inside: usize, name: &[u8]) -> Named
         if c.found {
             let from = c.from;
             let to = c.to;
-            if same(name, &s[from..to]) {
+            if name == &s[from..to] {
                 return Named {
                     found: true,
                     inside: c.inside,
@@ -63,50 +60,24 @@ fn bit(b: bool, n: u64) -> u64
     0
 }
 
-fn padded(raw: &[u8]) -> [u8; WIDTH]
-    requires { length raw.now ≡ 24 }
-    ensures { result ≡ raw.now }
-{
-    let mut bytes = [0u8; WIDTH];
-    let mut k = 0;
-    while k < WIDTH {
-        bytes[k] = raw[k];
-        k += 1;
-    }
-    bytes
-}
-
-// A line of the names, copied out, so that not all of them are on the stack while children are read.
-fn line_of(line: usize) -> [u8; WIDTH]
-    requires { line < LINES }
-    ensures { result ≡ name_at line 24 }
-{
-    let names = NAMES;
-    padded(name_at(&names, line, WIDTH))
-}
-
-// Which features stand in the content behind a start tag. Their names stand on the lines 0 to 2.
+// Which features stand in the content behind a start tag.
 fn noted(s: &[u8], inside: usize) -> Tried
     ensures { NotesIn s.now inside result }
 {
-    let name = line_of(0);
-    let forecast = first_child(s, inside, &name[0..20]);
-    let name = line_of(1);
-    let query = first_child(s, inside, &name[0..21]);
-    let name = line_of(2);
-    let send = first_child(s, inside, &name[0..20]);
+    let forecast = first_child(s, inside, b"FeatureBoardForecast");
+    let query = first_child(s, inside, b"FeatureQueryBoardInfo");
+    let send = first_child(s, inside, b"FeatureSendBoardInfo");
     let a = bit(forecast.found, 1);
     let b = bit(query.found, 2);
     let c = bit(send.found, 4);
     number(0, 1, a + (b + c))
 }
 
-// The first child SupportedFeatures, whose name stands on line 6, and which features stand in it.
+// The first child SupportedFeatures, and which features stand in it.
 fn supported(s: &[u8], inside: usize) -> Tried
     ensures { Supports s.now inside result }
 {
-    let name = line_of(6);
-    let c = first_child(s, inside, &name[0..17]);
+    let c = first_child(s, inside, b"SupportedFeatures");
     if c.found {
         return noted(s, c.inside);
     }

@@ -2,7 +2,6 @@
 ghost use Rattle.std.specs.Prelude.{◌<◌};
 ghost use Rattle.reads.specs.Held.{Held, Found, Called, Lies};
 
-use rows::same::same;
 use value::{Span, Words};
 
 // Whether the attribute i has that name.
@@ -12,7 +11,7 @@ fn is_named(s: &[u8], base: usize, table: &[u16], count: usize, i: usize, name: 
 {
     let from = base + (table[4 * i] as usize);
     let to = base + (table[4 * i + 1] as usize);
-    same(name, &s[from..to])
+    name == &s[from..to]
 }
 
 // Where the raw value of the attribute i stands.

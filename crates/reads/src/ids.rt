@@ -6,7 +6,7 @@ ghost use Rattle.message.specs.Messages.{id_cell};
 ghost use Rattle.reads.specs.Ids.{IdOf, IdAt, TakesId};
 
 use crate::kind_rows::put;
-use rows::data::{NO_ID, id_cell};
+use rows::data::id_cell;
 
 // The lesser of both.
 fn least(a: u8, b: u8) -> u8
@@ -39,11 +39,7 @@ fn copied(raw: &[u8]) -> [u8; 36]
     ensures { result ≡ raw.now }
 {
     let mut bytes = [0u8; 36];
-    let mut k = 0;
-    while k < 36 {
-        bytes[k] = raw[k];
-        k += 1;
-    }
+    bytes.copy_from_slice(raw);
     bytes
 }
 
@@ -76,10 +72,9 @@ pub fn take_id(s: &[u8], kind: u8, cells: &mut [u64]) -> [u8; 36]
     requires { length cells.old ≡ NUMBERS }
     ensures { TakesId s.now (id_cell kind) cells.old cells.new result }
 {
-    let at = id_cell(kind);
-    if NO_ID <= at {
+    let Some(at) = id_cell(kind) else {
         return [0u8; 36];
-    }
+    };
     let there = cells[at];
     let start = cells[at + 1] as usize;
     let len = cells[at + 2] as usize;

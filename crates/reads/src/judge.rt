@@ -2,12 +2,13 @@
 ghost use Rattle.std.specs.Prelude.{◌≡◌, ◌≤◌};
 ghost use Rattle.table.specs.Table.{words, some_words, whole, guid as a_guid, version as aVersion, positive};
 ghost use Rattle.table.specs.Says.{refusal_in, refused};
+ghost use Rattle.rows.specs.Coding.{form_of};
 ghost use Rattle.reads.specs.Kept.{int_of, size_of, Judges, RowJudges};
 
 use crate::tried::{Tried, number, span};
 use decodes::Length;
 use number::WholeRead;
-use rows::data::Row;
+use rows::data::Form;
 
 /// A text of at most so many bytes. What a value reads as is no longer than the value.
 pub fn text(raw: &[u8], limit: usize) -> u8
@@ -102,18 +103,17 @@ pub fn size(raw: &[u8]) -> Tried
     bad()
 }
 
-/// A value that starts there, by the form of its row, which is not 0.
-pub fn judged(raw: &[u8], start: usize, row: Row) -> Tried
-    requires { row.high ≤ 65535 }
-    ensures { RowJudges row.form row.low row.high raw.now start result }
+/// A value that starts there, by the form of its row. A child has no value.
+pub fn judged(raw: &[u8], start: usize, form: Form) -> Tried
+    ensures { RowJudges (form_of form) raw.now start result }
 {
-    let form = row.form;
     match form {
-        1 => span(text(raw, row.high as usize), start, raw.len()),
-        2 => span(some_text(raw, row.high as usize), start, raw.len()),
-        3 => int(raw, row.low, row.high),
-        4 => span(guid(raw), start, raw.len()),
-        5 => span(version(raw), start, raw.len()),
-        _ => size(raw),
+        Form::Features => bad(),
+        Form::Text { most } => span(text(raw, most as usize), start, raw.len()),
+        Form::SomeText { most } => span(some_text(raw, most as usize), start, raw.len()),
+        Form::Int { low, high } => int(raw, low as u64, high as u64),
+        Form::Guid => span(guid(raw), start, raw.len()),
+        Form::Version => span(version(raw), start, raw.len()),
+        Form::Positive => size(raw),
     }
 }

@@ -1,6 +1,6 @@
 // The rows of a kind, one after the other.
 ghost use Rattle.std.specs.Prelude.{◌≡◌, ◌∷◌, ◌++◌, ◌≤◌, ◌<◌, ◌+◌, length, take, drop};
-ghost use Rattle.rows.specs.Coding.{numbers as coding, names as letters, MOST};
+ghost use Rattle.rows.specs.Coding.{MOST};
 ghost use Rattle.message.specs.Cells.{NUMBERS};
 ghost use Rattle.reads.specs.Held.{Held};
 ghost use Rattle.reads.specs.Kept.{AllRowed};
@@ -8,7 +8,7 @@ ghost use Rattle.reads.specs.Kept.{AllRowed};
 use crate::features::Sort;
 use crate::first::first;
 use crate::trying::try_row;
-use rows::data::{row_at, rows_of};
+use rows::data::rows_of;
 
 /// Three numbers put down.
 pub fn put(cells: &mut [u64], at: usize, there: u64, a: u64, b: u64)
@@ -38,27 +38,20 @@ pub fn check_rows(
     table: &[u16],
     count: usize,
     sort: Sort,
-    numbers: &[u64],
-    names: &[u8],
     cells: &mut [u64],
 ) -> u8
-    requires { Held s.now base table.now count × (numbers.now ≡ coding) × (names.now ≡ letters) × (NUMBERS ≤ length cells.old) }
+    requires { Held s.now base table.now count × (NUMBERS ≤ length cells.old) }
     ensures { AllRowed s.now base table.now count sort cells.old cells.new result }
 {
-    let range = rows_of(sort.kind);
+    let rows = rows_of(sort.kind);
     let features = sort.features;
-    let from = range.from;
-    let n = range.count;
     let mut refusal = 0;
     let mut guess = 0;
-    let mut i = 0;
-    while i < n {
-        let row = row_at(numbers, from + i);
-        let t = try_row(s, base, table, count, guess, features, names, row);
+    for (i, row) in rows.iter().enumerate() {
+        let t = try_row(s, base, table, count, guess, features, row);
         put(&mut *cells, 3 * i, t.there, t.a, t.b);
         refusal = first(refusal, t.refusal);
         guess = behind(guess, t.there);
-        i += 1;
     }
     refusal
 }

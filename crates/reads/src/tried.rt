@@ -1,8 +1,11 @@
 // What a row says.
-ghost use Rattle.std.specs.Prelude.{◌≡◌, [], ◌∷◌, eqb};
+ghost use Rattle.std.specs.Prelude.{◌≡◌, [], ◌∷◌};
 ghost use Rattle.value.specs.declared.text.Words.TheVariants.{Present};
 ghost use Rattle.message.specs.Cells.{words_cell};
+ghost use Rattle.rows.specs.Coding.{may_miss};
 ghost use Rattle.reads.specs.Kept.{as_cell, lacking, carried_by};
+
+use rows::data::Need;
 
 /// A row tried: its refusal, and the three numbers of its cell.
 #[derive(Clone, Copy)]
@@ -38,18 +41,18 @@ pub fn span(refusal: u8, start: usize, len: usize) -> Tried
 }
 
 /// A value that is not there.
-pub fn missing(need: u64) -> Tried
-    ensures { result ≡ lacking (eqb need 1) }
+pub fn missing(need: Need) -> Tried
+    ensures { result ≡ lacking (may_miss need) }
 {
-    if need == 1 {
-        return number(0, 0, 0);
+    match need {
+        Need::Required => number(4, 0, 0),
+        Need::Optional => number(0, 0, 0),
     }
-    number(4, 0, 0)
 }
 
 /// A child that was looked for before.
-pub fn carried(found: Tried, need: u64) -> Tried
-    ensures { result ≡ carried_by found (eqb need 1) }
+pub fn carried(found: Tried, need: Need) -> Tried
+    ensures { result ≡ carried_by found (may_miss need) }
 {
     if found.there == 0 {
         return missing(need);

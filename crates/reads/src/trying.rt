@@ -1,13 +1,11 @@
 // A row tried on the attributes and the children of an element.
-ghost use Rattle.std.specs.Prelude.{◌≡◌};
-ghost use Rattle.rows.specs.Coding.{names as letters, Sound};
 ghost use Rattle.reads.specs.Held.{Held};
 ghost use Rattle.reads.specs.Kept.{Rowed};
 
 use crate::find::find;
 use crate::judge::judged;
 use crate::tried::{Tried, carried, missing};
-use rows::data::{Row, name_at};
+use rows::data::Row;
 use value::Words;
 
 /// A row tried: its attribute, for which the attribute `guess` is looked at first; or its child, which was looked for before.
@@ -18,22 +16,19 @@ pub fn try_row(
     count: usize,
     guess: usize,
     features: Tried,
-    names: &[u8],
-    row: Row,
+    row: &Row,
 ) -> Tried
-    requires { Held s.now base table.now count × (names.now ≡ letters) × Sound row }
-    ensures { Rowed s.now base table.now count features row result }
+    requires { Held s.now base table.now count }
+    ensures { Rowed s.now base table.now count features row.now result }
 {
-    let form = row.form;
-    if form == 0 {
+    if row.form.is_child() {
         return carried(features, row.need);
     }
-    let name = name_at(names, row.line as usize, row.len as usize);
-    let w = find(s, base, table, count, guess, name);
+    let w = find(s, base, table, count, guess, row.name);
     let Words::Present(p) = w else {
         return missing(row.need);
     };
     let start = p.start;
     let len = p.len;
-    judged(&s[start..start + len], start, row)
+    judged(&s[start..start + len], start, row.form)
 }

@@ -7,7 +7,6 @@ ghost use Rattle.reads.specs.Whole.{outcome_of, Sketched, CellsChecked};
 use crate::features::{Sort, sort_of};
 use crate::kind_rows::check_rows;
 use reader::answer::{Answer, Outline};
-use rows::data::{NAMES, NUMBERS};
 use tags::attributes::PLACES;
 
 /// What stands behind the glue in front of an input, as message::Checked says, without what a message says.
@@ -42,9 +41,7 @@ pub fn tell(s: &[u8], o: Outline, sort: Sort, table: &[u16], cells: &mut [u64]) 
         Answer::Ends { start, end } => {
             let to = o.to;
             let kind = sort.kind;
-            let numbers = NUMBERS;
-            let names = NAMES;
-            let refusal = check_rows(s, to, table, o.count, sort, &numbers, &names, cells);
+            let refusal = check_rows(s, to, table, o.count, sort, cells);
             made(refusal, kind, start, end, 0)
         }
         Answer::More { start } => made(1, 0, start, 0, 0),

@@ -1,7 +1,5 @@
 -- Each answer by the outline.
 use mathlib.Core.Path.{refl, sym}
-use Rattle.table.specs.Table.{table}
-use Rattle.rows.specs.Coding.{numbers, names}
 use Rattle.reads.proofs.OutlineLaws.{accepted, accepted_held, accepted_long, outlined_order, outlined_in}
 use Rattle.decides.proofs.DecideLaws.{decides_end, decides_more, decides_malformed, decides_too_long}
 use Rattle.decides.proofs.decided.Goals as goal
@@ -14,8 +12,7 @@ pub slice_bounds-rule-end : goal.slice_bounds-rule-end
 slice_bounds-rule-end c = sym (accepted_long (accepted c.outline-o.ensures c.in-Ends.is) refl)
 
 pub rule-x-requires : goal.rule-x-requires
-unfolding numbers names table
-rule-x-requires c = (accepted_held (accepted c.outline-o.ensures c.in-Ends.is) refl, refl, refl)
+rule-x-requires c = accepted_held (accepted c.outline-o.ensures c.in-Ends.is) refl
 
 pub returns-in-Ends : goal.returns-in-Ends
 returns-in-Ends c = decides_end c.outline-o.ensures c.in-Ends.start c.in-Ends.end refl c.in-Ends.is c.sort_of-k.ensures c.rule-x.ensures c.made.ensures

@@ -1,4 +1,6 @@
 -- The places of its name.
+use Rattle.std.proofs.Common.{◌∙◌, ◌+◌, ◌-◌, ◌*◌, take, drop, get_or}
+use Rattle.rows.proofs.SameLaws.{bytes_same}
 use native.Mathlib.Omega.{arith}
 use Rattle.reads.proofs.FindLaws.{placed_at}
 use Rattle.reads.proofs.find.is_named.Goals as goal
@@ -31,14 +33,14 @@ bounds-table-i-2 c = let z = placed_at c.requires.0 c.requires.1 in omega (arith
 pub overflow_add-to-2 : goal.overflow_add-to-2
 overflow_add-to-2 c = let z = placed_at c.requires.0 c.requires.1 in omega (arith, z.long, z.name_order, z.name_in_lem, z.value_order, z.value_in_holds)
 
-pub slice_bounds-same-count : goal.slice_bounds-same-count
-slice_bounds-same-count c = let z = placed_at c.requires.0 c.requires.1 in omega (arith, z.long, z.name_order, z.name_in_lem, z.value_order, z.value_in_holds)
+pub slice_bounds-eq-count : goal.slice_bounds-eq-count
+slice_bounds-eq-count c = let z = placed_at c.requires.0 c.requires.1 in omega (arith, z.long, z.name_order, z.name_in_lem, z.value_order, z.value_in_holds)
 
-pub slice_bounds-same-start : goal.slice_bounds-same-start
-slice_bounds-same-start c = let z = placed_at c.requires.0 c.requires.1 in omega (arith, z.long, z.name_order, z.name_in_lem, z.value_order, z.value_in_holds)
+pub slice_bounds-eq-start : goal.slice_bounds-eq-start
+slice_bounds-eq-start c = let z = placed_at c.requires.0 c.requires.1 in omega (arith, z.long, z.name_order, z.name_in_lem, z.value_order, z.value_in_holds)
 
-pub slice_bounds-same-end : goal.slice_bounds-same-end
-slice_bounds-same-end c = let z = placed_at c.requires.0 c.requires.1 in omega (arith, z.long, z.name_order, z.name_in_lem, z.value_order, z.value_in_holds)
+pub slice_bounds-eq-end : goal.slice_bounds-eq-end
+slice_bounds-eq-end c = let z = placed_at c.requires.0 c.requires.1 in omega (arith, z.long, z.name_order, z.name_in_lem, z.value_order, z.value_in_holds)
 
 pub returns : goal.returns
-returns c = c.same.ensures
+returns c = c.eq.ensures ∙ bytes_same c.args.name.now (take (c.args.base + get_or c.args.table.now (4 * c.args.i + 1) 0 - (c.args.base + get_or c.args.table.now (4 * c.args.i) 0)) (drop (c.args.base + get_or c.args.table.now (4 * c.args.i) 0) c.args.s.now))

@@ -1,41 +1,14 @@
 -- The invariant: what is tried with what is left says what all rows say.
-use mathlib.Core.Path.{sym, subst}
-use Prim.Native.Nat.{◌+◌}
-use native.Mathlib.Omega.{arith}
-use Rattle.rows.specs.Coding.{Sound}
-use Rattle.rows.specs.declared.data.Row.{Row as Coded}
-use Rattle.rows.proofs.CodingLaws.{few_rows, row_sound}
-use Rattle.reads.specs.Kept.{Rowed}
-use Rattle.reads.proofs.TableLaws.{room, only_features}
+use Rattle.std.proofs.Common.{arith}
+use Rattle.reads.proofs.TableLaws.{only_features}
 use Rattle.reads.proofs.LoopLaws.{loop_starts, loop_goes_on, loop_ends}
 use Rattle.reads.proofs.kind_rows.check_rows.Goals as goal
 
 pub loop-i-init : goal.loop-i-init
-loop-i-init c = (loop_starts c.args.s.now c.args.base c.args.table.now c.args.count c.args.sort.features c.rows_of-range.result.from c.rows_of-range.result.count c.args.cells.now, omega arith)
-
-pub overflow_add-from : goal.overflow_add-from
-overflow_add-from c = omega (arith, few_rows)
-
-pub row_at-row-requires : goal.row_at-row-requires
-row_at-row-requires c = (c.requires.1, omega arith)
-
-pub try_row-t-requires : goal.try_row-t-requires
-try_row-t-requires c = (c.requires.0, c.requires.2, subst Sound (sym c.row_at-row.ensures) (row_sound (c.rows_of-range.result.from + c.loop-i.i) (omega arith)))
-
-pub overflow_mul-i : goal.overflow_mul-i
-overflow_mul-i c = let v = room c.rows_of-range.ensures in omega arith
-
-pub put-requires : goal.put-requires
-put-requires c = let v = room c.rows_of-range.ensures in omega arith
-
-pub behind-guess-requires : goal.behind-guess-requires
-behind-guess-requires c = let v = room c.rows_of-range.ensures in omega arith
-
-pub overflow_add-i : goal.overflow_add-i
-overflow_add-i c = let v = room c.rows_of-range.ensures in omega arith
+loop-i-init c = (loop_starts c.args.s.now c.args.base c.args.table.now c.args.count c.args.sort.features c.rows_of-rows.result.now c.args.cells.now, omega arith)
 
 pub loop-i-preserved : goal.loop-i-preserved
-loop-i-preserved c = let v = room c.rows_of-range.ensures in (loop_goes_on c.args.s.now c.args.base c.args.table.now c.args.count c.args.sort.features c.rows_of-range.result.from c.rows_of-range.result.count c.args.cells.now c.loop-i.invariant.0 c.loop-i-test.true (subst (λ (x : Coded). Rowed c.args.s.now c.args.base c.args.table.now c.args.count c.args.sort.features x c.try_row-t.result) c.row_at-row.ensures c.try_row-t.ensures) c.put.ensures (omega arith) c.first-refusal.ensures, omega arith)
+loop-i-preserved c = (loop_goes_on c.args.s.now c.args.base c.args.table.now c.args.count c.args.sort.features c.rows_of-rows.result.now c.args.cells.now _ c.loop-i.invariant.0 c.loop-i-test.true c.try_row-t.ensures c.put.ensures (let v = c.rows_of-rows.ensures.few in omega arith) c.first-refusal.ensures, omega arith)
 
 pub returns : goal.returns
-returns c = loop_ends c.args.s.now c.args.base c.args.table.now c.args.count c.args.sort.features c.rows_of-range.result.from c.rows_of-range.result.count c.args.cells.now c.args.sort c.rows_of-range.ensures.all (only_features c.args.sort c.rows_of-range.ensures) c.loop-i.invariant.0 c.loop-i-test.false
+returns c = loop_ends c.args.s.now c.args.base c.args.table.now c.args.count c.args.sort.features c.rows_of-rows.result.now c.args.cells.now c.args.sort c.rows_of-rows.ensures.all (only_features c.args.sort c.rows_of-rows.ensures) c.loop-i.invariant.0 c.loop-i-test.false

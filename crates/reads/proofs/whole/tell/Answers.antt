@@ -1,15 +1,11 @@
 -- Each answer by the outline.
-use mathlib.Core.Path.{refl}
-use Rattle.table.specs.Table.{table}
-use Rattle.rows.specs.Coding.{numbers, names}
 use Rattle.reads.proofs.OutlineLaws.{accepted, accepted_held}
 use Rattle.reads.proofs.WholeLaws.{cells_end, cells_more, cells_malformed, cells_too_long}
 use Rattle.reads.proofs.whole.tell.Goals as goal
 
 -- Each answer by the outline.
 pub check_rows-refusal-requires : goal.check_rows-refusal-requires
-unfolding numbers names table
-check_rows-refusal-requires c = (accepted_held (accepted c.requires.1.outlined c.in-Ends.is) c.requires.1.whole, refl, refl, c.requires.0)
+check_rows-refusal-requires c = (accepted_held (accepted c.requires.1.outlined c.in-Ends.is) c.requires.1.whole, c.requires.0)
 
 pub returns-in-Ends : goal.returns-in-Ends
 returns-in-Ends c = cells_end c.requires.1.outlined c.in-Ends.start c.in-Ends.end c.requires.1.whole c.in-Ends.is c.requires.2 c.check_rows-refusal.ensures c.made.ensures
