@@ -7,12 +7,12 @@ use case_words::given::{forecast, id, kind, message, record};
 use case_words::line::{byte, decimal, low};
 use case_words::show;
 use case_words::show::{put, small, told};
+use cells::{Cell, cell_of};
 use lane::{Event, Forecast, Lane, Moved};
 use meant::Written;
-use message::cells::NUMBERS;
 use message::{Checked, Message};
 use reader::answer::Answer;
-use rows::data::Range;
+use rows::data::{Form, rows_of};
 
 /// The room of a buffer for what is written.
 const ROOM: usize = 6500;
@@ -32,58 +32,33 @@ fn read(rt: &impl Print, a: Answer) {
     }
 }
 
-// The form of a row, as its number in the table.
-fn form(from: usize, i: usize) -> u64 {
-    if 100 < from {
-        return 0;
-    }
-    if 100 < i {
-        return 0;
-    }
-    let j = from + i;
-    let numbers = rows::data::NUMBERS;
-    if numbers.len() <= j {
-        return 0;
-    }
-    numbers[j] / 0x0100_0000_0000_0000
-}
-
-fn value(rt: &impl Print, form: u64, there: u64, a: u64, b: u64, id: [u8; 36]) {
-    if there == 0 {
+fn value(rt: &impl Print, form: Form, cell: Cell, id: [u8; 36]) {
+    if cell.there == 0 {
         put(rt, b" -");
         return;
     }
     match form {
-        1 | 2 | 5 => {
-            told(rt, b" ", a);
-            told(rt, b"+", b);
+        Form::Text { .. } | Form::SomeText { .. } | Form::Version => {
+            told(rt, b" ", cell.a);
+            told(rt, b"+", cell.b);
         }
-        4 => {
+        Form::Guid => {
             put(rt, b" ");
             put(rt, &id);
         }
-        _ => {
-            told(rt, b" ", a);
-            if 0 < b {
-                told(rt, b"+", b);
+        Form::Features | Form::Int { .. } | Form::Positive => {
+            told(rt, b" ", cell.a);
+            if 0 < cell.b {
+                told(rt, b"+", cell.b);
             }
         }
     }
 }
 
-// The values of the rows in a range.
-fn in_order(rt: &impl Print, cells: [u64; NUMBERS], id: [u8; 36], range: Range) {
-    for i in 0..24 {
-        if range.count <= i {
-            return;
-        }
-        let f = form(range.from, i);
-        value(rt, f, cells[3 * i], cells[3 * i + 1], cells[3 * i + 2], id);
-    }
-}
-
 fn values(rt: &impl Print, m: Message) {
-    in_order(rt, m.cells, m.id, rows::data::rows_of(m.kind));
+    for (i, row) in rows_of(m.kind).iter().enumerate() {
+        value(rt, row.form, cell_of(&m.cells, i), m.id);
+    }
 }
 
 fn checked(rt: &impl Print, c: Checked) {

@@ -1,4 +1,4 @@
--- What the promises of `cell`, `clear`, `kind_from`, `text_from`, `blank` and `named_id` determine: each is an equation.
+-- What the promises of `number_at`, `cell_of`, `clear`, `kind_from`, `text_from`, `blank` and `named_id` determine: each is an equation.
 use mathlib.Core.Path.{◌≡◌, sym, ◌∙◌}
 
 -- no second result meets it

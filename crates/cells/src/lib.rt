@@ -5,4 +5,4 @@ mod ids;
 mod numbers;
 
 pub use ids::named_id;
-pub use numbers::{blank, cell, clear, kind_from, text_from};
+pub use numbers::{Cell, blank, cell_of, clear, kind_from, number_at, text_from};

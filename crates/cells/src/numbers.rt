@@ -1,6 +1,6 @@
 // The numbers of a message: its kind and its cells.
-ghost use Rattle.std.specs.Prelude.{◌≡◌, length, replicate};
-ghost use Rattle.message.specs.Cells.{cell_at, words_by};
+ghost use Rattle.std.specs.Prelude.{◌≡◌, ◌<◌, ◌+◌, ◌*◌, length, replicate};
+ghost use Rattle.message.specs.Cells.{ROWS, cell_at, words_by};
 ghost use Rattle.message.specs.Messages.{at_most, blank as blankOf};
 
 use message::Message;
@@ -10,31 +10,41 @@ use value::Span;
 pub fn kind_from(n: u64) -> u8
     ensures { result ≡ at_most 255 n }
 {
-    if n <= 255 {
-        return n as u8;
-    }
-    255
+    u8::try_from(n).unwrap_or(u8::MAX)
 }
 
 /// The number that stands there; 0 behind the end.
-pub fn cell(cells: &[u64], n: usize) -> u64
+pub fn number_at(cells: &[u64], n: usize) -> u64
     ensures { result ≡ cell_at cells.now n }
 {
-    if cells.len() <= n {
-        return 0;
+    cells.get(n).copied().unwrap_or(0)
+}
+
+/// What a message says of a row: that it is there, if the first number is not 0, and two numbers.
+#[derive(Clone, Copy)]
+pub struct Cell {
+    pub there: u64,
+    pub a: u64,
+    pub b: u64,
+}
+
+/// The cell of the row i; zeros behind the end.
+pub fn cell_of(cells: &[u64], i: usize) -> Cell
+    requires { i < ROWS }
+    ensures { result ≡ record { there = cell_at cells.now (3 * i); a = cell_at cells.now (3 * i + 1); b = cell_at cells.now (3 * i + 2) } }
+{
+    Cell {
+        there: number_at(cells, 3 * i),
+        a: number_at(cells, 3 * i + 1),
+        b: number_at(cells, 3 * i + 2),
     }
-    cells[n]
 }
 
 /// Zeros in all cells: nothing is there.
 pub fn clear(cells: &mut [u64])
     ensures { cells.new ≡ replicate (length cells.old) 0 }
 {
-    let mut i = 0;
-    while i < cells.len() {
-        cells[i] = 0;
-        i += 1;
-    }
+    cells.fill(0);
 }
 
 /// A text that is there, or not.

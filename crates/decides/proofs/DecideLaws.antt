@@ -1,14 +1,13 @@
 -- The loop over the rows, and from an outline to what decides over the one reading.
-use Rattle.std.specs.Prelude.{Option, None}
 use Rattle.value.specs.declared.text.Span.{Span}
 use mathlib.Core.Path.{◌≡◌, refl, sym, ap, subst, ◌∙◌}
 use mathlib.Core.List.{List}
 use mathlib.Core.Bool.{Bool, true, false, cond}
 use Prim.Native.Nat.{ℕ, zero, suc, ◌+◌, ◌-◌, ◌≤◌, ◌<◌}
 use native.Mathlib.Omega.{arith}
-use lib.ListN.{length, take, drop}
+use lib.ListN.{length, take, drop, get_or}
 use lib.Dec.{eqb}
-use borrow.Author.Tests.{eq-eqb, ne_eqb}
+use Rattle.exact.specs.Chain.{clash}
 use Rattle.std.specs.Prelude.{Option, None, Some, Err}
 use Rattle.refusals.specs.Numbers.{number_of}
 use Rattle.refusals.specs.declared.Refusal.{Refusal}
@@ -24,9 +23,11 @@ use Rattle.table.specs.Table.{Row, words, some_words, whole, guid, version, posi
 use Rattle.table.specs.Theorems.{rows_table}
 use Rattle.table.specs.Says.{child_of, children_of, said_of}
 use Rattle.message.specs.Checked.{places_in}
-use Rattle.rows.specs.Coding.{attribute_form, name_at, row_of, coded_at, rows_from}
+use Rattle.rows.specs.Coding.{form_of, is_child, row_of, as_rows}
+use Rattle.rows.specs.declared.data.Form.{Form as CodedForm}
+use Rattle.rows.specs.declared.data.Form.TheVariants.{Features, Text, SomeText, Int, Guid, Version, Positive}
 use Rattle.rows.specs.declared.data.Row.{Row as Coded}
-use Rattle.rows.proofs.CodingLaws.{next_row, no_row}
+use Rattle.rows.proofs.RowLaws.{left, next_row, no_row}
 use Rattle.reads.specs.Held.{Held, Found, pairs, place}
 use Rattle.reads.specs.Kept.{Verdict, Rowed, Sorted, Sorts}
 use Rattle.reads.specs.declared.features.Sort.{Sort}
@@ -39,30 +40,37 @@ use Rattle.decides.specs.declared.Ruling.{Ruling}
 use Rattle.decides.specs.declared.Decision.{Decision}
 
 -- a child has no value
-pub child_stands : {s : Bytes} {base : ℕ} {table : List ℕ} {count : ℕ} (c : Coded) {r : Option Span} → c.form ≡ 0 → r ≡ None → Stands s base table count c r
+child_value : (F : CodedForm) (w : Option Span) → is_child F ≡ true → value_in (form_of F) w ≡ None
 unfolding value_in
-child_stands c e q = record { says = λ h. q ∙ sym (ap (λ (b : Bool). value_in (cond b features (attribute_form c.form c.low c.high)) (place h (name_at c.line c.len))) (eq-eqb c.form 0 e)) }
+child_value Features w e = refl
+child_value (Text most) w e = clash (sym e)
+child_value (SomeText most) w e = clash (sym e)
+child_value (Int low high) w e = clash (sym e)
+child_value Guid w e = clash (sym e)
+child_value Version w e = clash (sym e)
+child_value Positive w e = clash (sym e)
+
+pub child_stands : {s : Bytes} {base : ℕ} {table : List ℕ} {count : ℕ} (c : Coded) {b : Bool} {r : Option Span} → b ≡ is_child c.form → b ≡ true → r ≡ None → Stands s base table count c r
+child_stands c e y q = record { says = λ h. q ∙ sym (child_value c.form (place h c.name.now) (sym e ∙ y)) }
 
 -- of the other forms it is that of the attribute
-attribute_value : (k lo hi : ℕ) (w : Option Span) → value_in (attribute_form k lo hi) w ≡ w
+attribute_value : (F : CodedForm) (w : Option Span) → is_child F ≡ false → value_in (form_of F) w ≡ w
 unfolding value_in
-attribute_value k lo hi w = go (eqb k 1) (eqb k 2) (eqb k 3) (eqb k 4) (eqb k 5)
-  where
-    go : (a b c d e : Bool) → value_in (cond a (words hi) (cond b (some_words hi) (cond c (whole lo hi) (cond d guid (cond e version positive))))) w ≡ w
-    go true b c d e = refl
-    go false true c d e = refl
-    go false false true d e = refl
-    go false false false true e = refl
-    go false false false false true = refl
-    go false false false false false = refl
+attribute_value Features w e = clash e
+attribute_value (Text most) w e = refl
+attribute_value (SomeText most) w e = refl
+attribute_value (Int low high) w e = refl
+attribute_value Guid w e = refl
+attribute_value Version w e = refl
+attribute_value Positive w e = refl
 
-pub attribute_stands : {s : Bytes} {base : ℕ} {table : List ℕ} {count : ℕ} (c : Coded) {n : Bytes} {r : Option Span} → (c.form ≡ 0 → ⊥) → n ≡ name_at c.line c.len → Found s base table count n r → Stands s base table count c r
-attribute_stands {s} {base} {table} {count} c {n} {r} other q found = record { says = λ h. (subst (λ (n : Bytes). Found s base table count n r) q found).says h ∙ sym (ap (λ (b : Bool). value_in (cond b features (attribute_form c.form c.low c.high)) (place h (name_at c.line c.len))) (ne_eqb c.form 0 other) ∙ attribute_value c.form c.low c.high (place h (name_at c.line c.len))) }
+pub attribute_stands : {s : Bytes} {base : ℕ} {table : List ℕ} {count : ℕ} (c : Coded) {b : Bool} {r : Option Span} → b ≡ is_child c.form → b ≡ false → Found s base table count c.name.now r → Stands s base table count c r
+attribute_stands c e n found = record { says = λ h. found.says h ∙ sym (attribute_value c.form (place h c.name.now) (sym e ∙ n)) }
 
 -- no row before the i-th is refused: the rows from it on rule as all do
-pub record Tried-so-far (s : Bytes) (base : ℕ) (table : List ℕ) (count : ℕ) (found : Option ℕ) (from n i : ℕ) : Type 0 where
-  pub upto : i ≤ n
-  pub rules : (h : Held s base table count) (m : Bytes) (f : Forest) → Fed found from n f → first_refused i (rows_from (from + i) (n - i)) (place h) (tree m (pairs h) f) ≡ first_refused 0 (rows_from from n) (place h) (tree m (pairs h) f)
+pub record Tried-so-far (s : Bytes) (base : ℕ) (table : List ℕ) (count : ℕ) (found : Option ℕ) (l : List Coded) (i : ℕ) : Type 0 where
+  pub upto : i ≤ length l
+  pub rules : (h : Held s base table count) (m : Bytes) (f : Forest) → Fed found l f → first_refused i (left l i) (place h) (tree m (pairs h) f) ≡ first_refused 0 (as_rows l) (place h) (tree m (pairs h) f)
 
 ruled_zero : (n i : ℕ) (w : Option Span) (x : Option Ruling) → n ≡ 0 → ruled_by n i w x ≡ x
 ruled_zero zero i w x e = refl
@@ -84,32 +92,32 @@ is_refused_lem NoRoom h = omega arith
 is_refused_lem MayNotBeSent h = omega arith
 is_refused_lem ProtocolError h = omega arith
 
-module _ (s : Bytes) (base : ℕ) (table : List ℕ) (count : ℕ) (found : Option ℕ) (from n : ℕ) where
-  pub rule_starts : Tried-so-far s base table count found from n 0
-  rule_starts = record { upto = omega arith; rules = λ h m f z. (let a : from + 0 ≡ from = omega arith in let b : n - 0 ≡ n = omega arith in ap (λ (j : ℕ). first_refused 0 (rows_from j (n - 0)) (place h) (tree m (pairs h) f)) a ∙ ap (λ (j : ℕ). first_refused 0 (rows_from from j) (place h) (tree m (pairs h) f)) b) }
+module _ (s : Bytes) (base : ℕ) (table : List ℕ) (count : ℕ) (found : Option ℕ) (l : List Coded) where
+  pub rule_starts : Tried-so-far s base table count found l 0
+  rule_starts = record { upto = omega arith; rules = λ h m f z. refl }
 
-  module _ {i : ℕ} {t : Verdict} (g : Tried-so-far s base table count found from n i) (h : i < n) (row : Rowed s base table count found (coded_at (from + i)) t) where
+  module _ {i : ℕ} {t : Verdict} (d : Coded) (g : Tried-so-far s base table count found l i) (h : i < length l) (row : Rowed s base table count found (get_or l i d) t) where
     line : Row
-    line = row_of (coded_at (from + i))
+    line = row_of (get_or l i d)
 
     -- the i-th row ahead of the others
-    at_row : (k : Held s base table count) (m : Bytes) (f : Forest) → Fed found from n f → ruled_by t.refusal i (value_in line.form (place k line.name)) (first_refused (suc i) (rows_from (from + (i + 1)) (n - (i + 1))) (place k) (tree m (pairs k) f)) ≡ first_refused 0 (rows_from from n) (place k) (tree m (pairs k) f)
+    at_row : (k : Held s base table count) (m : Bytes) (f : Forest) → Fed found l f → ruled_by t.refusal i (value_in line.form (place k line.name)) (first_refused (suc i) (left l (i + 1)) (place k) (tree m (pairs k) f)) ≡ first_refused 0 (as_rows l) (place k) (tree m (pairs k) f)
     unfolding first_refused line
     at_row k m f z =
-        ap (λ (x : ℕ). ruled_by x i (value_in line.form (place k line.name)) (first_refused (suc i) (rows_from (from + (i + 1)) (n - (i + 1))) (place k) (tree m (pairs k) f))) (ap (λ (t : Verdict). t.refusal) (row.says k m f (z i h)))
-        ∙ ap (λ (l : List Row). first_refused i l (place k) (tree m (pairs k) f)) (sym (next_row from n i h))
+        ap (λ (x : ℕ). ruled_by x i (value_in line.form (place k line.name)) (first_refused (suc i) (left l (i + 1)) (place k) (tree m (pairs k) f))) (ap (λ (t : Verdict). t.refusal) (row.says k m f (z i d h)))
+        ∙ ap (λ (l : List Row). first_refused i l (place k) (tree m (pairs k) f)) (sym (next_row l i d h))
         ∙ g.rules k m f z
 
-    pub rule_goes_on : t.refusal ≡ 0 → Tried-so-far s base table count found from n (i + 1)
-    rule_goes_on e = record { upto = omega arith; rules = λ k m f z. (let a : i + 1 ≡ suc i = omega arith in ap (λ (j : ℕ). first_refused j (rows_from (from + (i + 1)) (n - (i + 1))) (place k) (tree m (pairs k) f)) a ∙ sym (ruled_zero t.refusal i (value_in line.form (place k line.name)) (first_refused (suc i) (rows_from (from + (i + 1)) (n - (i + 1))) (place k) (tree m (pairs k) f)) e) ∙ at_row k m f z) }
+    pub rule_goes_on : t.refusal ≡ 0 → Tried-so-far s base table count found l (i + 1)
+    rule_goes_on e = record { upto = omega arith; rules = λ k m f z. (let a : i + 1 ≡ suc i = omega arith in ap (λ (j : ℕ). first_refused j (left l (i + 1)) (place k) (tree m (pairs k) f)) a ∙ sym (ruled_zero t.refusal i (value_in line.form (place k line.name)) (first_refused (suc i) (left l (i + 1)) (place k) (tree m (pairs k) f)) e) ∙ at_row k m f z) }
 
-    pub rule_found : {r : Option Ruling} {w : Option Span} (sort : Sort) → rows_of sort.kind ≡ rows_from from n → ((f : Forest) → Sorted sort f → Fed found from n f) → (t.refusal ≡ 0 → ⊥) → Stands s base table count (coded_at (from + i)) w → r ≡ Some (record { refusal = t.refusal; row = i; value = w }) → Rules s base table count sort r
+    pub rule_found : {r : Option Ruling} {w : Option Span} (sort : Sort) → rows_of sort.kind ≡ as_rows l → ((f : Forest) → Sorted sort f → Fed found l f) → (t.refusal ≡ 0 → ⊥) → Stands s base table count (get_or l i d) w → r ≡ Some (record { refusal = t.refusal; row = i; value = w }) → Rules s base table count sort r
     unfolding line
-    rule_found {r} {w} sort e fed some stands q = record { says = λ k m f z. q ∙ ap (λ (w : Option Span). Some (record { refusal = t.refusal; row = i; value = w })) (stands.says k) ∙ sym (ruled_some t.refusal i (value_in line.form (place k line.name)) (first_refused (suc i) (rows_from (from + (i + 1)) (n - (i + 1))) (place k) (tree m (pairs k) f)) some) ∙ at_row k m f (fed f z) ∙ ap (λ (l : List Row). first_refused 0 l (place k) (tree m (pairs k) f)) (sym e) }
+    rule_found {r} {w} sort e fed some stands q = record { says = λ k m f z. q ∙ ap (λ (w : Option Span). Some (record { refusal = t.refusal; row = i; value = w })) (stands.says k) ∙ sym (ruled_some t.refusal i (value_in line.form (place k line.name)) (first_refused (suc i) (left l (i + 1)) (place k) (tree m (pairs k) f)) some) ∙ at_row k m f (fed f z) ∙ ap (λ (l : List Row). first_refused 0 l (place k) (tree m (pairs k) f)) (sym e) }
 
-  pub rule_ends : {i : ℕ} {r : Option Ruling} (sort : Sort) → rows_of sort.kind ≡ rows_from from n → ((f : Forest) → Sorted sort f → Fed found from n f) → Tried-so-far s base table count found from n i → n ≤ i → r ≡ None → Rules s base table count sort r
+  pub rule_ends : {i : ℕ} {r : Option Ruling} (sort : Sort) → rows_of sort.kind ≡ as_rows l → ((f : Forest) → Sorted sort f → Fed found l f) → Tried-so-far s base table count found l i → length l ≤ i → r ≡ None → Rules s base table count sort r
   unfolding first_refused
-  rule_ends {i} sort e fed g h q = record { says = λ k m f z. q ∙ ap (λ (l : List Row). first_refused i l (place k) (tree m (pairs k) f)) (sym (no_row from n i h)) ∙ g.rules k m f (fed f z) ∙ ap (λ (l : List Row). first_refused 0 l (place k) (tree m (pairs k) f)) (sym e) }
+  rule_ends {i} sort e fed g h q = record { says = λ k m f z. q ∙ ap (λ (l : List Row). first_refused i l (place k) (tree m (pairs k) f)) (sym (no_row l i h)) ∙ g.rules k m f (fed f z) ∙ ap (λ (l : List Row). first_refused 0 l (place k) (tree m (pairs k) f)) (sym e) }
 
 -- of the message that an outline describes
 module _ {s : Bytes} {old new : List ℕ} {o : Sketch} (p : Sketches s old new o) where

@@ -3,7 +3,6 @@
 
 ghost use Rattle.std.specs.Prelude.{◌≡◌};
 ghost use Rattle.refusals.specs.Numbers.{number_of};
-ghost use Rattle.rows.specs.Coding.{numbers as coding, names as letters, Sound};
 ghost use Rattle.decides.specs.Deciding.{undecided, decided_by, Decides};
 ghost use Rattle.decides.specs.Ruled.{StandsIn, RulesIn};
 
@@ -12,7 +11,7 @@ use reads::attributes::Attributes;
 use reads::features::{Sort, sort_of};
 use reads::trying::try_row;
 use refusals::Refusal;
-use rows::data::{NAMES, NUMBERS, Row, name_at, row_at, rows_of};
+use rows::data::{Row, rows_of};
 use tags::attributes::PLACES;
 use value::Span;
 
@@ -75,28 +74,24 @@ fn made(kind: u8, ruling: Option<Ruling>) -> Decision
 }
 
 // Where the raw value of a row's attribute stands; a child has none.
-fn value_of(attributes: &Attributes<'_>, names: &[u8], row: Row) -> Option<Span>
-    requires { (names.now ≡ letters) × Sound row }
-    ensures { StandsIn attributes.now row result }
+fn value_of(attributes: &Attributes<'_>, row: &Row) -> Option<Span>
+    ensures { StandsIn attributes.now row.now result }
 {
-    if row.form == 0 {
+    if row.form.is_child() {
         return None;
     }
-    let name = name_at(names, row.line as usize, row.len as usize);
-    attributes.find(0, name)
+    attributes.find(0, row.name)
 }
 
 // Tries the rows of the kind in order, up to the first that is refused.
-fn rule(attributes: &Attributes<'_>, sort: Sort, numbers: &[u64], names: &[u8]) -> Option<Ruling>
-    requires { (numbers.now ≡ coding) × (names.now ≡ letters) }
+fn rule(attributes: &Attributes<'_>, sort: Sort) -> Option<Ruling>
     ensures { RulesIn attributes.now sort result }
 {
-    let range = rows_of(sort.kind);
-    for i in 0..range.count {
-        let row = row_at(numbers, range.from + i);
-        let tried = try_row(attributes, i, sort.features, names, row);
+    let rows = rows_of(sort.kind);
+    for (i, row) in rows.iter().enumerate() {
+        let tried = try_row(attributes, i, sort.features, row);
         if let Err(refusal) = tried.answer {
-            let value = value_of(attributes, names, row);
+            let value = value_of(attributes, row);
             return Some(Ruling {
                 refusal: refusal.number(),
                 row: i,
@@ -122,9 +117,7 @@ pub fn decided(s: &[u8]) -> Decision
                 table: &table,
                 count: child.count,
             };
-            let numbers = NUMBERS;
-            let names = NAMES;
-            made(sort.kind, rule(&attributes, sort, &numbers, &names))
+            made(sort.kind, rule(&attributes, sort))
         }
         Err(Unread::More { start }) => unread(Refusal::Incomplete),
         Err(Unread::Malformed { start, place }) => unread(Refusal::Malformed),

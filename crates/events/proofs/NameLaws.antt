@@ -24,8 +24,7 @@ use Rattle.message.specs.Fields.{the_words}
 use Rattle.message.specs.Cells.{NUMBERS, cell_at, words_by, field_by, fields_from}
 use Rattle.message.specs.Messages.{message_by, fields_of, called_in}
 use Rattle.meant.specs.Meant.{text_at}
-use Rattle.rows.specs.Coding.{KINDS, rows_from}
-use Rattle.rows.proofs.CodingLaws.{listed, listed_same, above}
+use Rattle.events.proofs.KindLaws.{KINDS, listed, listed_same, above}
 use Rattle.meant.specs.Events.{Carried, no_forecast_case, a_forecast, forecast_of, forecast_told, forecast_id, carries_none, carries_one, carried_in, Sound}
 use Rattle.events.specs.Says.{forecast_cell, Got, Forecasts, Given, Kept, Reads, Names}
 
@@ -48,7 +47,7 @@ module _ (cells : List ℕ) (id : Bytes) where
   all_placed = refl
 
   none_placed : (k : ℕ) → KINDS < k → named k ≡ placed k
-  unfolding table rows_from forecast_id fields_of
+  unfolding table forecast_id fields_of
   none_placed k h = ap (λ (rows : List Row). the_words (called_in (text "ForecastId") rows (fields_from rows 0 cells id))) (above k h) ∙ ap (λ (n : ℕ). words_at n cells) (cell_else k (λ e. omega arith) (λ e. omega arith))
 
   named_placed : (k : ℕ) → named k ≡ placed k

@@ -2,7 +2,7 @@
 ghost use Rattle.std.specs.Prelude.{◌≡◌};
 ghost use Rattle.events.specs.Says.{forecast_cell, Kept, Names};
 
-use cells::{cell, text_from};
+use cells::{number_at, text_from};
 use lane::{Forecast, Kind};
 use value::Span;
 
@@ -28,7 +28,11 @@ pub fn forecast_words(kind: u8, cells: &[u64]) -> Option<Span>
     if 72 <= at {
         return None;
     }
-    text_from(cell(cells, at), cell(cells, at + 1), cell(cells, at + 2))
+    text_from(
+        number_at(cells, at),
+        number_at(cells, at + 1),
+        number_at(cells, at + 2),
+    )
 }
 
 /// A ForecastId as a lane keeps it. One that is too long is none.

@@ -24,8 +24,6 @@ use Rattle.reader.specs.declared.answer.Child.{Child}
 use Rattle.table.specs.Says.{present, noted, without, name_of, children_of, has_child, notes, featured}
 use Rattle.lane.specs.Names.{ServiceDescription}
 use Rattle.table.specs.Table.{table, kind_of}
-use Rattle.rows.specs.Coding.{LINES, WIDTH, names, name_at}
-use Rattle.rows.proofs.CodingLaws.{length_names}
 use Rattle.reads.specs.Children.{Holds, holds_none, holds, First, no_child_case, first_child, FirstIn}
 use Rattle.reads.specs.Kept.{as_cell, lacking, features_of, NotesIn, SUPPORTED, Carried, Supports, Sorts}
 
@@ -202,49 +200,30 @@ bits false true false = refl
 bits false false true = refl
 bits false false false = refl
 
--- their names stand first on their lines
-abbrev pub on_line : ℕ → ℕ → Bytes
-on_line line n = take n (drop 0 (name_at line 24))
+finds : {s : Bytes} {inside : ℕ} {n : Bytes} {r : Option ℕ} {f : Forest} → FirstIn s inside n r → Holds s inside f → is_some r ≡ has_child n f
+finds {f = f} p h = found_is (p.says f h)
 
-on_lines_lem : (on_line 0 20 ≡ text "FeatureBoardForecast") × (on_line 1 21 ≡ text "FeatureQueryBoardInfo") × (on_line 2 20 ≡ text "FeatureSendBoardInfo") × (on_line 6 17 ≡ SUPPORTED)
-unfolding names table
-on_lines_lem = (refl, refl, refl, refl)
-
--- there are so many lines, each of 24 bytes
-pub some_lines : (n : ℕ) → n < 20 → n < LINES
-unfolding table
-some_lines n h = let z = leb-true 20 LINES refl in omega arith
-
-pub length_line : (n : ℕ) → n < LINES → {l : Bytes} → l ≡ name_at n 24 → length l ≡ 24
-length_line n h e =
-    let z : n * WIDTH + 24 - n * WIDTH ≡ 24 = omega arith in
-    let d = length-drop (n * WIDTH) names in
-    ap length e ∙ ap (λ (m : ℕ). length (take m (drop (n * WIDTH) names))) z ∙ length-take-le 24 (drop (n * WIDTH) names) (omega (arith, length_names))
-
-finds : {s : Bytes} {inside : ℕ} {n n' m : Bytes} {r : Option ℕ} {f : Forest} → FirstIn s inside n r → n ≡ n' → n' ≡ m → Holds s inside f → is_some r ≡ has_child m f
-finds {s} {inside} {r = r} {f = f} p e q h = found_is ((subst (λ (n : Bytes). FirstIn s inside n r) (e ∙ q) p).says f h)
-
-pub all_noted : {s : Bytes} {inside : ℕ} {x y z : Option ℕ} {l m n : Bytes} {a b d : Bool} → l ≡ on_line 0 20 → FirstIn s inside l x → m ≡ on_line 1 21 → FirstIn s inside m y → n ≡ on_line 2 20 → FirstIn s inside n z
+pub all_noted : {s : Bytes} {inside : ℕ} {x y z : Option ℕ} {a b d : Bool} → FirstIn s inside (text "FeatureBoardForecast") x → FirstIn s inside (text "FeatureQueryBoardInfo") y → FirstIn s inside (text "FeatureSendBoardInfo") z
     → a ≡ is_some x → b ≡ is_some y → d ≡ is_some z → NotesIn s inside (bool_byte a + 2 * bool_byte b + 4 * bool_byte d)
-all_noted {s} {inside} {x} {y} {z} {a = a} {b = b} {d = d} i p j q k t e f g = record { says = go }
+all_noted {s} {inside} {x} {y} {z} {a = a} {b = b} {d = d} p q t e f g = record { says = go }
   where
     go : (o : Forest) → Holds s inside o → as_cell 0 (1 ∷ (bool_byte a + 2 * bool_byte b + 4 * bool_byte d) ∷ 0 ∷ []) ≡ features_of (present (notes o))
     go o h =
         let m = has_child (text "FeatureBoardForecast") o in
         let n = has_child (text "FeatureQueryBoardInfo") o in
         bits a b d
-        ∙ ap (λ (c : Bool). features_of (present (noted c b d))) (e ∙ finds p i on_lines_lem.0 h)
-        ∙ ap (λ (c : Bool). features_of (present (noted m c d))) (f ∙ finds q j on_lines_lem.1 h)
-        ∙ ap (λ (c : Bool). features_of (present (noted m n c))) (g ∙ finds t k on_lines_lem.2 h)
+        ∙ ap (λ (c : Bool). features_of (present (noted c b d))) (e ∙ finds p h)
+        ∙ ap (λ (c : Bool). features_of (present (noted m c d))) (f ∙ finds q h)
+        ∙ ap (λ (c : Bool). features_of (present (noted m n c))) (g ∙ finds t h)
 
 lacks : (o : Bool) → lacking o ≡ features_of (without o)
 lacks true = refl
 lacks false = refl
 
 -- the first child SupportedFeatures
-module _ {s : Bytes} {inside : ℕ} {name : Bytes} {c : Option ℕ} (e : name ≡ on_line 6 17) (first : FirstIn s inside name c) where
+module _ {s : Bytes} {inside : ℕ} {c : Option ℕ} (first : FirstIn s inside SUPPORTED c) where
   search_says : (f : Forest) → Holds s inside f → First s SUPPORTED f c
-  search_says f h = subst (λ (n : Bytes). First s n f c) (e ∙ on_lines_lem.3) (first.says f h)
+  search_says f h = first.says f h
 
   pub supports_some : {at n : ℕ} → c ≡ Some at → NotesIn s at n → Supports s inside (Some n)
   supports_some {at} {n} q m = record { says = λ f h. go f (search_says f h) }

@@ -17,8 +17,9 @@ use Rattle.grammar.specs.Bytes.{Bytes}
 use Rattle.grammar.specs.Tree.{Tree, tree, Forest}
 use Rattle.table.specs.Table.{Row, rows_of}
 use Rattle.table.specs.Says.{refusal_in, tried, first, refusal_of}
-use Rattle.rows.specs.Coding.{row_of, coded_at, rows_from}
-use Rattle.rows.proofs.CodingLaws.{next_row, no_row, length_rows}
+use Rattle.rows.specs.Coding.{row_of, as_rows}
+use Rattle.rows.specs.declared.data.Row.{Row as Coded}
+use Rattle.rows.proofs.RowLaws.{left, next_row, no_row, length_rows}
 use Rattle.message.specs.Fields.{Field, none, a_words, a_whole, a_measure, a_guid, a_features}
 use Rattle.message.specs.Cells.{cell_of, cells_of}
 use Rattle.reads.specs.Held.{Held, pairs, place}
@@ -93,56 +94,54 @@ put_three l at x y z h = let a : at + 1 ≡ suc at = omega arith in let b : at +
 kept : (l : List ℕ) (at x y z : ℕ) → at + 3 ≤ length l → length (take at l ++ (x ∷ y ∷ z ∷ drop (at + 3) l)) ≡ length l
 kept l at x y z h = let a = length-append (take at l) (x ∷ y ∷ z ∷ drop (at + 3) l) in let b = length-take-le at l (omega arith) in let d = length-drop (at + 3) l in omega arith
 
-pub record Going (s : Bytes) (base : ℕ) (table : List ℕ) (count : ℕ) (features : Option ℕ) (from n : ℕ) (before cells : List ℕ) (refusal i : ℕ) : Type 0 where
-  pub upto : i ≤ n
+pub record Going (s : Bytes) (base : ℕ) (table : List ℕ) (count : ℕ) (features : Option ℕ) (coded : List Coded) (before cells : List ℕ) (refusal i : ℕ) : Type 0 where
+  pub upto : i ≤ length coded
   pub long : length cells ≡ length before
-  pub refuses : (h : Held s base table count) (m : Bytes) (f : Forest) → Fed features from n f → first refusal (refusal_of (rows_from (from + i) (n - i)) (tree m (pairs h) f)) ≡ refusal_of (rows_from from n) (tree m (pairs h) f)
-  pub fills : (h : Held s base table count) (m : Bytes) (f : Forest) → Fed features from n f → Filled before cells i (cells_of (kept_in (rows_from (from + i) (n - i)) (place h) (tree m (pairs h) f))) (cells_of (kept_in (rows_from from n) (place h) (tree m (pairs h) f)))
+  pub refuses : (h : Held s base table count) (m : Bytes) (f : Forest) → Fed features coded f → first refusal (refusal_of (left coded i) (tree m (pairs h) f)) ≡ refusal_of (as_rows coded) (tree m (pairs h) f)
+  pub fills : (h : Held s base table count) (m : Bytes) (f : Forest) → Fed features coded f → Filled before cells i (cells_of (kept_in (left coded i) (place h) (tree m (pairs h) f))) (cells_of (kept_in (as_rows coded) (place h) (tree m (pairs h) f)))
 
-module _ (s : Bytes) (base : ℕ) (table : List ℕ) (count : ℕ) (features : Option ℕ) (from n : ℕ) (before : List ℕ) where
-  pub loop_starts : Going s base table count features from n before before 0 0
-  loop_starts =
-      let e : rows_from (from + 0) (n - 0) ≡ rows_from from n = (let a : from + 0 ≡ from = omega arith in let b : n - 0 ≡ n = omega arith in ap (λ (j : ℕ). rows_from j (n - 0)) a ∙ ap (rows_from from) b) in
-      record { upto = omega arith; long = refl; refuses = λ h m f z. ap (λ (l : List Row). refusal_of l (tree m (pairs h) f)) e; fills = λ h m f z. record { front = []; are = refl; long = refl; joined = ap (λ (l : List Row). cells_of (kept_in l (place h) (tree m (pairs h) f))) e } }
+module _ (s : Bytes) (base : ℕ) (table : List ℕ) (count : ℕ) (features : Option ℕ) (coded : List Coded) (before : List ℕ) where
+  pub loop_starts : Going s base table count features coded before before 0 0
+  loop_starts = record { upto = omega arith; long = refl; refuses = λ h m f z. refl; fills = λ h m f z. record { front = []; are = refl; long = refl; joined = refl } }
 
-  pub loop_goes_on : {cells cells' : List ℕ} {refusal refusal' i : ℕ} {t : Verdict} → Going s base table count features from n before cells refusal i → i < n → Rowed s base table count features (coded_at (from + i)) t
-      → cells' ≡ take (3 * i) cells ++ (t.there ∷ t.a ∷ t.b ∷ drop (3 * i + 3) cells) → 3 * i + 3 ≤ length cells → refusal' ≡ first refusal t.refusal → Going s base table count features from n before cells' refusal' (i + 1)
+  pub loop_goes_on : {cells cells' : List ℕ} {refusal refusal' i : ℕ} {t : Verdict} (d : Coded) → Going s base table count features coded before cells refusal i → i < length coded → Rowed s base table count features (get_or coded i d) t
+      → cells' ≡ take (3 * i) cells ++ (t.there ∷ t.a ∷ t.b ∷ drop (3 * i + 3) cells) → 3 * i + 3 ≤ length cells → refusal' ≡ first refusal t.refusal → Going s base table count features coded before cells' refusal' (i + 1)
   unfolding refusal_of
-  loop_goes_on {cells} {cells'} {refusal} {refusal'} {i} {t} g h row e fits r = record { upto = omega arith; long = ap length e ∙ kept cells (3 * i) t.there t.a t.b fits ∙ g.long; refuses = refuses; fills = fills }
+  loop_goes_on {cells} {cells'} {refusal} {refusal'} {i} {t} d g h row e fits r = record { upto = omega arith; long = ap length e ∙ kept cells (3 * i) t.there t.a t.b fits ∙ g.long; refuses = refuses; fills = fills }
     where
       rest : List Row
-      rest = rows_from (from + (i + 1)) (n - (i + 1))
+      rest = left coded (i + 1)
 
       line : Row
-      line = row_of (coded_at (from + i))
+      line = row_of (get_or coded i d)
 
-      refuses : (h : Held s base table count) (m : Bytes) (f : Forest) → Fed features from n f → first refusal' (refusal_of rest (tree m (pairs h) f)) ≡ refusal_of (rows_from from n) (tree m (pairs h) f)
+      refuses : (h : Held s base table count) (m : Bytes) (f : Forest) → Fed features coded f → first refusal' (refusal_of rest (tree m (pairs h) f)) ≡ refusal_of (as_rows coded) (tree m (pairs h) f)
       refuses o m f z =
-          let q : t.refusal ≡ refusal_in (tried line (tree m (pairs o) f)) = ap (λ (t : Verdict). t.refusal) (row.says o m f (z i h)) in
+          let q : t.refusal ≡ refusal_in (tried line (tree m (pairs o) f)) = ap (λ (t : Verdict). t.refusal) (row.says o m f (z i d h)) in
           ap (λ (x : ℕ). first x (refusal_of rest (tree m (pairs o) f))) (r ∙ ap (first refusal) q)
           ∙ first_assoc refusal (refusal_in (tried line (tree m (pairs o) f))) (refusal_of rest (tree m (pairs o) f))
-          ∙ ap (λ (l : List Row). first refusal (refusal_of l (tree m (pairs o) f))) (sym (next_row from n i h))
+          ∙ ap (λ (l : List Row). first refusal (refusal_of l (tree m (pairs o) f))) (sym (next_row coded i d h))
           ∙ g.refuses o m f z
 
-      fills : (h : Held s base table count) (m : Bytes) (f : Forest) → Fed features from n f → Filled before cells' (i + 1) (cells_of (kept_in rest (place h) (tree m (pairs h) f))) (cells_of (kept_in (rows_from from n) (place h) (tree m (pairs h) f)))
+      fills : (h : Held s base table count) (m : Bytes) (f : Forest) → Fed features coded f → Filled before cells' (i + 1) (cells_of (kept_in rest (place h) (tree m (pairs h) f))) (cells_of (kept_in (as_rows coded) (place h) (tree m (pairs h) f)))
       fills o m f z =
-          fill before cells i t.there t.a t.b (cells_of (kept_in rest (place o) (tree m (pairs o) f))) (cells_of (kept_in (rows_from from n) (place o) (tree m (pairs o) f))) cells'
-          (subst (λ (l : List ℕ). Filled before cells i l (cells_of (kept_in (rows_from from n) (place o) (tree m (pairs o) f))))
-          (ap (λ (l : List Row). cells_of (kept_in l (place o) (tree m (pairs o) f))) (next_row from n i h) ∙ next_cell line rest (place o) (tree m (pairs o) f) ∙ ap (λ (t : Verdict). t.there ∷ t.a ∷ t.b ∷ cells_of (kept_in rest (place o) (tree m (pairs o) f))) (sym (row.says o m f (z i h))))
+          fill before cells i t.there t.a t.b (cells_of (kept_in rest (place o) (tree m (pairs o) f))) (cells_of (kept_in (as_rows coded) (place o) (tree m (pairs o) f))) cells'
+          (subst (λ (l : List ℕ). Filled before cells i l (cells_of (kept_in (as_rows coded) (place o) (tree m (pairs o) f))))
+          (ap (λ (l : List Row). cells_of (kept_in l (place o) (tree m (pairs o) f))) (next_row coded i d h) ∙ next_cell line rest (place o) (tree m (pairs o) f) ∙ ap (λ (t : Verdict). t.there ∷ t.a ∷ t.b ∷ cells_of (kept_in rest (place o) (tree m (pairs o) f))) (sym (row.says o m f (z i d h))))
           (g.fills o m f z)) e
 
-  pub loop_ends : {cells : List ℕ} {refusal i : ℕ} (k : Sort) → rows_of k.kind ≡ rows_from from n → ((f : Forest) → Sorted k f → Fed features from n f) → Going s base table count features from n before cells refusal i → n ≤ i → AllRowed s base table count k before cells refusal
+  pub loop_ends : {cells : List ℕ} {refusal i : ℕ} (k : Sort) → rows_of k.kind ≡ as_rows coded → ((f : Forest) → Sorted k f → Fed features coded f) → Going s base table count features coded before cells refusal i → length coded ≤ i → AllRowed s base table count k before cells refusal
   unfolding refusal_of cells_of kept_in
   loop_ends {cells} {refusal} {i} k e fed g h = record { refusal = refuses; cells = fills }
     where
       refuses : (h : Held s base table count) (m : Bytes) (f : Forest) → Sorted k f → refusal ≡ refusal_of (rows_of k.kind) (tree m (pairs h) f)
-      refuses o m f z = sym (first_zero refusal) ∙ ap (λ (l : List Row). first refusal (refusal_of l (tree m (pairs o) f))) (sym (no_row from n i h)) ∙ g.refuses o m f (fed f z) ∙ ap (λ (l : List Row). refusal_of l (tree m (pairs o) f)) (sym e)
+      refuses o m f z = sym (first_zero refusal) ∙ ap (λ (l : List Row). first refusal (refusal_of l (tree m (pairs o) f))) (sym (no_row coded i h)) ∙ g.refuses o m f (fed f z) ∙ ap (λ (l : List Row). refusal_of l (tree m (pairs o) f)) (sym e)
 
       fills : (h : Held s base table count) (m : Bytes) (f : Forest) → Sorted k f → cells ≡ cells_of (kept_in (rows_of k.kind) (place h) (tree m (pairs h) f)) ++ drop (3 * length (rows_of k.kind)) before
       fills o m f z =
           let x = g.fills o m f (fed f z) in
           let u = g.upto in
-          let len : length (rows_of k.kind) ≡ n = ap length e ∙ length_rows from n in
+          let len : length (rows_of k.kind) ≡ length coded = ap length e ∙ length_rows coded in
           let w : 3 * i ≡ 3 * length (rows_of k.kind) = omega arith in
-          let all : x.front ≡ cells_of (kept_in (rows_of k.kind) (place o) (tree m (pairs o) f)) = sym (append-nil x.front) ∙ ap (λ (l : List Row). x.front ++ cells_of (kept_in l (place o) (tree m (pairs o) f))) (sym (no_row from n i h)) ∙ x.joined ∙ ap (λ (l : List Row). cells_of (kept_in l (place o) (tree m (pairs o) f))) (sym e) in
+          let all : x.front ≡ cells_of (kept_in (rows_of k.kind) (place o) (tree m (pairs o) f)) = sym (append-nil x.front) ∙ ap (λ (l : List Row). x.front ++ cells_of (kept_in l (place o) (tree m (pairs o) f))) (sym (no_row coded i h)) ∙ x.joined ∙ ap (λ (l : List Row). cells_of (kept_in l (place o) (tree m (pairs o) f))) (sym e) in
           x.are ∙ ap (λ (l : List ℕ). l ++ drop (3 * i) before) all ∙ ap (λ (j : ℕ). cells_of (kept_in (rows_of k.kind) (place o) (tree m (pairs o) f)) ++ drop j before) w

@@ -1,73 +1,78 @@
--- The rows of a kind: they have room for their cells, and only those of ServiceDescription have a child, SupportedFeatures.
-use mathlib.Core.Path.{◌≡◌, refl, sym, ap, subst, ◌∙◌}
-use mathlib.Core.List.{List, [], ◌∷◌}
-use mathlib.Core.Bool.{Bool, true, false, ◌&&◌, not, cond}
-use Prim.Native.Nat.{ℕ, zero, suc, ◌+◌, ◌≤◌, ◌<◌}
-use native.Mathlib.Omega.{arith}
-use lib.ListN.{length}
-use lib.Dec.{eqb, leb}
-use borrow.Author.Tests.{eq-eqb, eqb-true, leb-true, leb-false}
+-- The rows of a kind: only those of ServiceDescription have a child, SupportedFeatures.
+use Rattle.std.proofs.Common.{◌≡◌, ℕ, zero, suc, ◌<◌, Bool, true, false, ◌&&◌, ◌||◌, not, cond, List, [], ◌∷◌, length, get_or, eqb, refl, sym, ap, ◌∙◌, subst, arith}
+use borrow.Author.Tests.{eqb-true}
 use Rattle.std.specs.Prelude.{Option}
 use Rattle.exact.specs.Chain.{clash}
 use Rattle.grammar.specs.Bytes.{Bytes, same}
 use Rattle.grammar.specs.Tree.{Forest}
 use Rattle.model.specs.Tests.{and_left, and_right, same_true}
 use Rattle.lane.specs.Names.{ServiceDescription}
-use Rattle.table.specs.Table.{table, Row, rows_of}
-use Rattle.rows.specs.Coding.{KINDS, ROWS, RowsAt, names, numbers, coded_at, name_at, row_of, rows_from}
-use Rattle.rows.specs.declared.data.Range.{Range}
-use Rattle.rows.proofs.CodingLaws.{length_rows, listed, listed_same, above}
-use Rattle.message.specs.Cells.{ROWS as MOST}
-use Rattle.message.proofs.GuidLaws.{few_rows}
+use Rattle.table.specs.Table.{table, Row, Entry, rows_in, rows_of}
+use Rattle.table.specs.Theorems.{each_rows}
+use Rattle.rows.specs.Coding.{RowsAt, is_child, row_of, as_rows}
+use Rattle.rows.specs.declared.data.Row.{Row as Coded}
 use Rattle.reads.specs.Kept.{SUPPORTED, Carried, Sorted}
 use Rattle.reads.specs.declared.features.Sort.{Sort}
-use Rattle.reads.proofs.RowLaws.{plain, is_child_lem}
+use Rattle.reads.proofs.RowLaws.{plain, plain_form}
 
-pub room : {k : ℕ} {r : Range} → RowsAt k r → r.count ≤ MOST
-room {k} {r} h = let f = few_rows k in let e = ap length h.all ∙ length_rows r.from r.count in omega arith
+-- a test of each row
+abbrev each : (Row → Bool) → List Row → Bool
+each p [] = true
+each p (r ∷ l) = p r && each p l
 
--- rows without a child
-abbrev all_plain : List Row → Bool
-all_plain [] = true
-all_plain (r ∷ l) = plain r.form && all_plain l
-
-plain_at : (j n i : ℕ) → all_plain (rows_from j n) ≡ true → i < n → plain (row_of (coded_at (j + i))).form ≡ true
-unfolding rows_from
-plain_at j zero i e h = absurd (omega arith)
-plain_at j (suc n) zero e h = let z : j ≡ j + 0 = omega arith in subst (λ (m : ℕ). plain (row_of (coded_at m)).form ≡ true) z (and_left (plain (row_of (coded_at j)).form) (all_plain (rows_from (suc j) n)) e)
-plain_at j (suc n) (suc i) e h = let z : suc j + i ≡ j + suc i = omega arith in subst (λ (m : ℕ). plain (row_of (coded_at m)).form ≡ true) z (plain_at (suc j) n i (and_right (plain (row_of (coded_at j)).form) (all_plain (rows_from (suc j) n)) e) (omega arith))
+at : (p : Row → Bool) (l : List Coded) (i : ℕ) (d : Coded) → each p (as_rows l) ≡ true → i < length l → p (row_of (get_or l i d)) ≡ true
+unfolding as_rows
+at p [] i d e h = absurd (omega arith)
+at p (c ∷ l) zero d e h = and_left (p (row_of c)) (each p (as_rows l)) e
+at p (c ∷ l) (suc i) d e h = at p l i d (and_right (p (row_of c)) (each p (as_rows l)) e) (omega arith)
 
 -- only one kind has a row with a child
-others_plain : listed (λ k. all_plain (rows_of k)) (suc KINDS) ≡ listed (λ k. not (eqb k ServiceDescription)) (suc KINDS)
-unfolding table
-others_plain = refl
+abbrev no_child : Row → Bool
+no_child r = plain r.form
 
-all_plain_lem : (k : ℕ) → eqb k ServiceDescription ≡ false → all_plain (rows_of k) ≡ true
-unfolding rows_from
-all_plain_lem k e = go (leb k KINDS) refl
+plain_entries : List Entry → Bool
+plain_entries [] = true
+plain_entries (e ∷ l) = (eqb e.kind ServiceDescription || each no_child e.rows) && plain_entries l
+
+all_plain : plain_entries table ≡ true
+unfolding table plain_entries
+all_plain = refl
+
+others_plain : (l : List Entry) (k : ℕ) → plain_entries l ≡ true → eqb k ServiceDescription ≡ false → each no_child (rows_in l k) ≡ true
+unfolding plain_entries
+others_plain [] k h e = refl
+others_plain (x ∷ l) k h e = go (eqb x.kind k) refl (others_plain l k (and_right (eqb x.kind ServiceDescription || each no_child x.rows) (plain_entries l) h) e)
   where
-    go : (z : Bool) → leb k KINDS ≡ z → all_plain (rows_of k) ≡ true
-    go true q = listed_same (λ k. all_plain (rows_of k)) (λ k. not (eqb k ServiceDescription)) (suc KINDS) k others_plain (let z = leb-true k KINDS q in omega arith) ∙ ap not e
-    go false q = ap all_plain (above k (leb-false k KINDS q))
+    here : eqb x.kind ServiceDescription || each no_child x.rows ≡ true
+    here = and_left (eqb x.kind ServiceDescription || each no_child x.rows) (plain_entries l) h
+
+    go : (b : Bool) → eqb x.kind k ≡ b → each no_child (rows_in l k) ≡ true → each no_child (cond b x.rows (rows_in l k)) ≡ true
+    go true q r =
+        let z : eqb x.kind ServiceDescription ≡ false = subst (λ (n : ℕ). eqb n ServiceDescription ≡ false) (sym (eqb-true x.kind k q)) e in
+        sym (ap (λ (b : Bool). b || each no_child x.rows) z) ∙ here
+    go false q r = r
 
 -- its name is that of the features
-named_so : listed (λ j. cond (eqb (coded_at j).form 0) (same SUPPORTED (name_at (coded_at j).line (coded_at j).len)) true) ROWS ≡ listed (λ j. true) ROWS
-unfolding coded_at numbers names table
-named_so = refl
+abbrev named_so : Row → Bool
+named_so r = plain r.form || same SUPPORTED r.name
 
--- each of n rows from the j-th on that is a child was looked for in f
-abbrev pub Fed : Option ℕ → ℕ → ℕ → Forest → Type 0
-Fed t j n f = (i : ℕ) → i < n → (coded_at (j + i)).form ≡ 0 → Carried (row_of (coded_at (j + i))).name t f
+all_named : (k : ℕ) → each named_so (rows_of k) ≡ true
+unfolding table
+all_named k = each_rows (each named_so) table k refl
 
-pub only_features : (k : Sort) {r : Range} → RowsAt k.kind r → (f : Forest) → Sorted k f → Fed k.features r.from r.count f
-only_features k {r} h f s i lt e = subst (λ (n : Bytes). Carried n k.features f) (sym named) (s (go (eqb k.kind ServiceDescription) refl))
+-- each row that is a child was looked for in f
+abbrev pub Fed : Option ℕ → List Coded → Forest → Type 0
+Fed t l f = (i : ℕ) (d : Coded) → i < length l → is_child (get_or l i d).form ≡ true → Carried (row_of (get_or l i d)).name t f
+
+pub only_features : (k : Sort) {l : List Coded} → RowsAt k.kind l → (f : Forest) → Sorted k f → Fed k.features l f
+only_features k {l} h f s i d lt e = subst (λ (n : Bytes). Carried n k.features f) (sym named) (s (go (eqb k.kind ServiceDescription) refl))
   where
-    within : r.from + i < ROWS
-    within = let w = h.within in omega arith
+    child : plain (row_of (get_or l i d)).form ≡ false
+    child = plain_form (get_or l i d).form ∙ ap not e
 
-    named : (row_of (coded_at (r.from + i))).name ≡ SUPPORTED
-    named = same_true SUPPORTED (row_of (coded_at (r.from + i))).name (ap (λ (b : Bool). cond b (same SUPPORTED (name_at (coded_at (r.from + i)).line (coded_at (r.from + i)).len)) true) (sym (eq-eqb (coded_at (r.from + i)).form 0 e)) ∙ listed_same (λ j. cond (eqb (coded_at j).form 0) (same SUPPORTED (name_at (coded_at j).line (coded_at j).len)) true) (λ j. true) ROWS (r.from + i) named_so within)
+    named : (row_of (get_or l i d)).name ≡ SUPPORTED
+    named = same_true SUPPORTED (row_of (get_or l i d)).name (sym (ap (λ (b : Bool). b || same SUPPORTED (row_of (get_or l i d)).name) child) ∙ at named_so l i d (sym (ap (each named_so) h.all) ∙ all_named k.kind) lt)
 
     go : (z : Bool) → eqb k.kind ServiceDescription ≡ z → k.kind ≡ ServiceDescription
     go true q = eqb-true k.kind ServiceDescription q
-    go false q = clash (sym (plain_at r.from r.count i (ap all_plain (sym h.all) ∙ all_plain_lem k.kind q) lt) ∙ is_child_lem (coded_at (r.from + i)) e)
+    go false q = clash (sym (at no_child l i d (sym (ap (each no_child) h.all) ∙ others_plain table k.kind all_plain q) lt) ∙ child)

@@ -1,6 +1,6 @@
 -- What is kept of a row: its refusal and a cell of three numbers; and of all rows of a kind. The cells are those of message's Cells, but for that of a
 -- GUID, which has the place and the length of its raw value.
-use Rattle.std.specs.Prelude.{◌≡◌, List, [], ◌∷◌, ◌++◌, Bool, ℕ, ◌-◌, ◌*◌, length, take, drop, get_or, Option, None, Some, Ok, Err, Result as Answer, cond, eqb}
+use Rattle.std.specs.Prelude.{◌≡◌, List, [], ◌∷◌, ◌++◌, Bool, true, ℕ, ◌-◌, ◌*◌, length, take, drop, get_or, Option, None, Some, Ok, Err, Result as Answer, cond, eqb}
 use Rattle.refusals.specs.Numbers.{number_of, told}
 use Rattle.refusals.specs.declared.Refusal.{Refusal}
 use Rattle.value.specs.declared.text.Span.{Span}
@@ -11,7 +11,7 @@ use Rattle.value.specs.Loose.{Loose}
 use Rattle.table.specs.Table.{Row, Form, words, some_words, whole, guid, version, positive, features, kind_of, rows_of}
 use Rattle.table.specs.Says.{Result, present, without, refusal_in, judged, notes, featured, tried, refusal_of}
 use Rattle.lane.specs.Names.{ServiceDescription}
-use Rattle.rows.specs.Coding.{attribute_form, row_of}
+use Rattle.rows.specs.Coding.{is_child, row_of}
 use Rattle.rows.specs.declared.data.Row.{Row as Coded}
 use Rattle.message.specs.Fields.{Field, none, a_words, a_whole, a_measure, a_features, whole_in, measure_in, features_in}
 use Rattle.message.specs.Cells.{whole_cell, measure_cell, features_cell, cell_of, cells_of}
@@ -82,9 +82,9 @@ kept_in (r ∷ l) place t = kept_of r.form (place r.name) (tried r t) ∷ kept_i
 pub record Judges {A : Type 0} (f : Result → A) (t : Form) (raw : Bytes) (r : A) : Type 0 where
   pub says : (l : List Item) → Loose raw l → r ≡ f (judged t (read_value l))
 
--- by the form of a row of the code
-pub record RowJudges (k lo hi : ℕ) (raw : Bytes) (start : ℕ) (r : Verdict) : Type 0 where
-  pub says : (l : List Item) → Loose raw l → r ≡ tried_as (attribute_form k lo hi) (Some (record { start = start; len = length raw })) (judged (attribute_form k lo hi) (read_value l))
+-- by the form of a row
+pub record RowJudges (t : Form) (raw : Bytes) (start : ℕ) (r : Verdict) : Type 0 where
+  pub says : (l : List Item) → Loose raw l → r ≡ tried_as t (Some (record { start = start; len = length raw })) (judged t (read_value l))
 
 -- the features that stand in an element's content
 pub record NotesIn (s : Bytes) (inside : ℕ) (r : ℕ) : Type 0 where
@@ -115,7 +115,7 @@ pub record Sorts (s : Bytes) (from to inside : ℕ) (r : Sort) : Type 0 where
 
 -- a row tried on the element that the table describes
 pub record Rowed (s : Bytes) (base : ℕ) (table : List ℕ) (count : ℕ) (found : Option ℕ) (c : Coded) (r : Verdict) : Type 0 where
-  pub says : (h : Held s base table count) (m : Bytes) (f : Forest) → (c.form ≡ 0 → Carried (row_of c).name found f) → r ≡ tried_by (row_of c) (place h) (tree m (pairs h) f)
+  pub says : (h : Held s base table count) (m : Bytes) (f : Forest) → (is_child c.form ≡ true → Carried (row_of c).name found f) → r ≡ tried_by (row_of c) (place h) (tree m (pairs h) f)
 
 -- the rows of a kind: the first refusal, and their cells in front of what was there
 pub record AllRowed (s : Bytes) (base : ℕ) (table : List ℕ) (count : ℕ) (k : Sort) (before after : List ℕ) (r : ℕ) : Type 0 where

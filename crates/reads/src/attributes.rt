@@ -1,7 +1,6 @@
 // The attributes of an element, whose places a table holds.
 ghost use Rattle.reads.specs.Held.{Held};
 
-use rows::same::same;
 use value::Span;
 
 /// The attributes of an element of a message. The table has four places for each, counted from `base`: from where to where its name stands, and its raw
@@ -27,7 +26,7 @@ impl<'a> Attributes<'a> {
     {
         let from = self.base + self.table[4 * i] as usize;
         let to = self.base + self.table[4 * i + 1] as usize;
-        same(name, &self.message[from..to])
+        name == &self.message[from..to]
     }
 
     // Where the raw value of the attribute i stands.

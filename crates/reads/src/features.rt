@@ -1,16 +1,12 @@
 // A child element by its name, and the features in it. They are looked for before the attributes are tried, so that the stack of both is not needed at once.
-ghost use Rattle.std.specs.Prelude.{◌≡◌, ◌≤◌, ◌<◌, length};
-ghost use Rattle.rows.specs.Coding.{LINES, name_at};
+ghost use Rattle.std.specs.Prelude.{◌≡◌, ◌≤◌, length};
 ghost use Rattle.reads.specs.Children.{FirstIn};
 ghost use Rattle.reads.specs.Kept.{NotesIn, Supports, Sorts};
 ghost use Rattle.reads.specs.Whole.{OutlineIn, OutlineSorts};
 
-use crate::copied::copied;
 use lane::Kind;
 use reader::answer::{Sketch, Unread};
-use rows::data::{NAMES, WIDTH, name_at};
 use rows::kind_named;
-use rows::same::same;
 
 /// The first child of that name in the content behind a start tag, told by the place behind its own start tag; a place is 0 for an empty tag.
 pub fn first_child(s: &[u8], inside: usize, name: &[u8]) -> Option<usize>
@@ -23,41 +19,28 @@ pub fn first_child(s: &[u8], inside: usize, name: &[u8]) -> Option<usize>
     loop {
         let child = reader::child(s, at)?;
         let outline = child.outline;
-        if same(name, &s[outline.from..outline.to]) {
+        if name == &s[outline.from..outline.to] {
             return Some(outline.inside);
         }
         at = child.next;
     }
 }
 
-// A line of the names, copied out, so that not all of them are on the stack while children are read.
-fn line_of(line: usize) -> [u8; WIDTH]
-    requires { line < LINES }
-    ensures { result ≡ name_at line 24 }
-{
-    let names = NAMES;
-    copied(name_at(&names, line, WIDTH))
-}
-
-// Which features stand in the content behind a start tag. Their names stand on the lines 0 to 2.
+// Which features stand in the content behind a start tag.
 fn noted(s: &[u8], inside: usize) -> u64
     ensures { NotesIn s.now inside result }
 {
-    let name = line_of(0);
-    let forecast = first_child(s, inside, &name[0..20]);
-    let name = line_of(1);
-    let query = first_child(s, inside, &name[0..21]);
-    let name = line_of(2);
-    let send = first_child(s, inside, &name[0..20]);
+    let forecast = first_child(s, inside, b"FeatureBoardForecast");
+    let query = first_child(s, inside, b"FeatureQueryBoardInfo");
+    let send = first_child(s, inside, b"FeatureSendBoardInfo");
     forecast.is_some() as u64 + 2 * (query.is_some() as u64) + 4 * (send.is_some() as u64)
 }
 
-// The first child SupportedFeatures, whose name stands on line 6, and which features stand in it.
+// The first child SupportedFeatures, and which features stand in it.
 fn supported(s: &[u8], inside: usize) -> Option<u64>
     ensures { Supports s.now inside result }
 {
-    let name = line_of(6);
-    let child = first_child(s, inside, &name[0..17])?;
+    let child = first_child(s, inside, b"SupportedFeatures")?;
     Some(noted(s, child))
 }
 

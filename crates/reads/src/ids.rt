@@ -8,7 +8,7 @@ ghost use Rattle.reads.specs.Ids.{IdOf, IdAt, TakesId};
 use crate::copied::copied;
 use crate::kind_rows::put;
 use crate::tried::Cell;
-use rows::data::{NO_ID, id_cell};
+use rows::data::id_cell;
 
 // Whether these are 36 bytes, none below `-`: so each stands as it reads. One least byte is kept, so that no branch is guessed.
 fn is_clear(raw: &[u8]) -> bool
@@ -52,10 +52,9 @@ pub fn take_id(s: &[u8], kind: u8, cells: &mut [u64]) -> [u8; 36]
     requires { length cells.old ≡ NUMBERS }
     ensures { TakesId s.now (id_cell kind) cells.old cells.new result }
 {
-    let at = id_cell(kind);
-    if NO_ID <= at {
+    let Some(at) = id_cell(kind) else {
         return [0u8; 36];
-    }
+    };
     let there = cells[at];
     let start = cells[at + 1] as usize;
     let len = cells[at + 2] as usize;

@@ -3,11 +3,12 @@ ghost use Rattle.std.specs.Prelude.{◌≡◌, ◌≤◌};
 ghost use Rattle.refusals.specs.Numbers.{told};
 ghost use Rattle.table.specs.Table.{words, some_words, whole, guid as a_guid, version as aVersion, positive};
 ghost use Rattle.table.specs.Says.{refusal_in};
+ghost use Rattle.rows.specs.Coding.{form_of};
 ghost use Rattle.reads.specs.Kept.{int_of, size_of, verdict_in, verdict_of, Judges, RowJudges};
 
 use crate::tried::{Cell, Tried};
 use refusals::Refusal;
-use rows::data::Row;
+use rows::data::Form;
 
 /// A text of at most so many bytes. What a value reads as is no longer than the value.
 pub fn text(raw: &[u8], limit: usize) -> Result<(), Refusal>
@@ -84,20 +85,19 @@ pub fn size(raw: &[u8]) -> Result<Cell, Refusal>
     })
 }
 
-/// A value that starts there, by the form of its row, which is not 0.
-pub fn judged(raw: &[u8], start: usize, row: Row) -> Tried
-    requires { row.high ≤ 65535 }
-    ensures { RowJudges row.form row.low row.high raw.now start (verdict_of result) }
+/// A value that starts there, by the form of its row. A child has no value.
+pub fn judged(raw: &[u8], start: usize, form: Form) -> Tried
+    ensures { RowJudges (form_of form) raw.now start (verdict_of result) }
 {
     let cell = Cell::place(start, raw.len());
-    let form = row.form;
     let answer = match form {
-        1 => text(raw, row.high as usize),
-        2 => some_text(raw, row.high as usize),
-        3 => return Tried::from(int(raw, row.low, row.high)),
-        4 => guid(raw),
-        5 => version(raw),
-        _ => return Tried::from(size(raw)),
+        Form::Features => return Tried::from(Err(Refusal::BadValue)),
+        Form::Text { most } => text(raw, most as usize),
+        Form::SomeText { most } => some_text(raw, most as usize),
+        Form::Int { low, high } => return Tried::from(int(raw, low as u64, high as u64)),
+        Form::Guid => guid(raw),
+        Form::Version => version(raw),
+        Form::Positive => return Tried::from(size(raw)),
     };
     Tried { cell, answer }
 }

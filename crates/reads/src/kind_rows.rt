@@ -1,7 +1,6 @@
 // The rows of a kind, one after the other.
 ghost use Rattle.std.specs.Prelude.{◌≡◌, ◌∷◌, ◌++◌, ◌≤◌, ◌<◌, ◌+◌, length, take, drop};
 ghost use Rattle.refusals.specs.Numbers.{told};
-ghost use Rattle.rows.specs.Coding.{numbers as coding, names as letters};
 ghost use Rattle.message.specs.Cells.{NUMBERS};
 ghost use Rattle.reads.specs.Attributes.{AllRowedIn};
 
@@ -10,7 +9,7 @@ use crate::features::Sort;
 use crate::tried::Cell;
 use crate::trying::try_row;
 use refusals::Refusal;
-use rows::data::{row_at, rows_of};
+use rows::data::rows_of;
 
 /// A cell put down.
 pub fn put(cells: &mut [u64], at: usize, cell: Cell)
@@ -26,19 +25,16 @@ pub fn put(cells: &mut [u64], at: usize, cell: Cell)
 pub fn check_rows(
     attributes: &Attributes<'_>,
     sort: Sort,
-    numbers: &[u64],
-    names: &[u8],
     cells: &mut [u64],
 ) -> Result<(), Refusal>
-    requires { (numbers.now ≡ coding) × (names.now ≡ letters) × (NUMBERS ≤ length cells.old) }
+    requires { NUMBERS ≤ length cells.old }
     ensures { AllRowedIn attributes.now sort cells.old cells.new (told result) }
 {
-    let range = rows_of(sort.kind);
+    let rows = rows_of(sort.kind);
     let mut answer = Ok(());
     let mut guess = 0;
-    for i in 0..range.count {
-        let row = row_at(numbers, range.from + i);
-        let tried = try_row(attributes, guess, sort.features, names, row);
+    for (i, row) in rows.iter().enumerate() {
+        let tried = try_row(attributes, guess, sort.features, row);
         put(&mut *cells, 3 * i, tried.cell);
         answer = answer.and(tried.answer);
         // Behind an attribute that was found, the next is looked for first.

@@ -1,9 +1,11 @@
 // What a row says.
-ghost use Rattle.std.specs.Prelude.{◌≡◌, [], ◌∷◌, Some, eqb};
+ghost use Rattle.std.specs.Prelude.{◌≡◌, [], ◌∷◌, Some};
 ghost use Rattle.message.specs.Cells.{words_cell};
+ghost use Rattle.rows.specs.Coding.{may_miss};
 ghost use Rattle.reads.specs.Kept.{cell_as, lacking, carried_by, verdict_in, verdict_of};
 
 use refusals::Refusal;
+use rows::data::Need;
 
 /// The three numbers that are put down for a row: whether its value is there, and two that tell it.
 #[derive(Clone, Copy)]
@@ -74,18 +76,18 @@ impl From<Result<Cell, Refusal>> for Tried {
 }
 
 /// A value that is not there.
-pub fn missing(need: u64) -> Result<Cell, Refusal>
-    ensures { verdict_in result ≡ lacking (eqb need 1) }
+pub fn missing(need: Need) -> Result<Cell, Refusal>
+    ensures { verdict_in result ≡ lacking (may_miss need) }
 {
-    if need == 1 {
-        return Ok(Cell::empty());
+    match need {
+        Need::Required => Err(Refusal::Missing),
+        Need::Optional => Ok(Cell::empty()),
     }
-    Err(Refusal::Missing)
 }
 
 /// A child that was looked for before, with the features in it.
-pub fn carried(features: Option<u64>, need: u64) -> Result<Cell, Refusal>
-    ensures { verdict_in result ≡ carried_by features (eqb need 1) }
+pub fn carried(features: Option<u64>, need: Need) -> Result<Cell, Refusal>
+    ensures { verdict_in result ≡ carried_by features (may_miss need) }
 {
     match features {
         Some(bits) => Ok(Cell::number(bits)),

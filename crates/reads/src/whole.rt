@@ -9,7 +9,6 @@ use crate::features::{Sort, sort_outlined};
 use crate::kind_rows::check_rows;
 use reader::answer::{Sketch, Unread};
 use refusals::{Refusal, told};
-use rows::data::{NAMES, NUMBERS};
 use tags::attributes::PLACES;
 
 /// What stands behind the glue in front of an input, as message::Checked says, without what a message says.
@@ -65,9 +64,7 @@ pub fn tell(
                 table,
                 count: o.child.count,
             };
-            let numbers = NUMBERS;
-            let names = NAMES;
-            let answer = check_rows(&attributes, sort, &numbers, &names, cells);
+            let answer = check_rows(&attributes, sort, cells);
             made(answer, sort.kind, o.start, o.end, 0)
         }
         Err(x) => unread(x),

@@ -1,2 +1,3 @@
+pub mod EntryLaws
+pub mod RowLaws
 pub mod SameLaws
-pub mod CodingLaws

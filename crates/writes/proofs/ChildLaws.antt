@@ -2,6 +2,7 @@
 use Rattle.std.specs.Prelude.{Some, None}
 use mathlib.Core.Path.{◌≡◌, refl, sym, ap, ◌∙◌}
 use mathlib.Core.List.{[], ◌∷◌, ◌++◌, append_assoc, append-nil}
+use mathlib.Core.Logic.{◌⊎◌, inl, inr}
 use mathlib.Core.Bool.{Bool, true, false, ◌&&◌, ◌||◌, cond}
 use Prim.Native.Nat.{ℕ, zero, suc, ◌+◌, ◌/◌, ◌%◌, ◌<◌}
 use native.Mathlib.Nat.{mod-lt}
@@ -16,11 +17,13 @@ use Rattle.table.specs.Table.{Form, words, some_words, whole, guid, version, pos
 use Rattle.message.specs.Fields.{a_features}
 use Rattle.message.specs.Cells.{is_there, bit, features_by, field_by}
 use Rattle.meant.specs.Written.{closed, empty_tag, features_inside, child_of}
-use Rattle.meant.proofs.ValueLaws.{is_child}
-use Rattle.rows.specs.Coding.{names, name_at, row_of}
+use Rattle.meant.proofs.ValueLaws.{is_child as form_child}
+use Rattle.rows.specs.Coding.{is_child, form_of, row_of}
+use Rattle.rows.specs.declared.data.Form.{Form as CodedForm}
+use Rattle.rows.specs.declared.data.Form.TheVariants.{Features, Text, SomeText, Int, Guid, Version, Positive}
 use Rattle.rows.specs.declared.data.Row.{Row as Coded}
 use Rattle.writes.specs.Rows.{start_tag, end_tag, flagged, features_in, child_bytes}
-use Rattle.writes.proofs.WorthLaws.{is_there_lem, form_is}
+use Rattle.writes.proofs.WorthLaws.{is_there_lem}
 use Rattle.writes.proofs.PutLaws.{child_form}
 
 -- tags
@@ -43,11 +46,20 @@ flag_is x {n} h e = record { is = ap (λ (b : Bool). cond b (empty_tag n) []) (i
 pub bit_small : (a : ℕ) → a % 2 < 2
 bit_small a = mod-lt a (lit< tt)
 
+abbrev FORECAST : Bytes
+FORECAST = text "FeatureBoardForecast"
+
+abbrev QUERY : Bytes
+QUERY = text "FeatureQueryBoardInfo"
+
+abbrev SEND : Bytes
+SEND = text "FeatureSendBoardInfo"
+
 abbrev listed : ℕ → ℕ → ℕ → Bytes
-listed x y z = flagged x (name_at 0 20) ++ (flagged y (name_at 1 21) ++ flagged z (name_at 2 20))
+listed x y z = flagged x FORECAST ++ (flagged y QUERY ++ flagged z SEND)
 
 listed_is : (bits : ℕ) → features_in bits ≡ listed (bits % 2) (bits / 2 % 2) (bits / 4 % 2)
-unfolding features_in flagged names
+unfolding features_in features_by flagged
 listed_is bits = refl
 
 none_listed : (x y z : ℕ) → x + y + z ≡ 0 → listed x y z ≡ []
@@ -71,11 +83,11 @@ some_both (b ∷ x) y = refl
 
 some_listed : (x y z : ℕ) → (x + y + z ≡ 0 → ⊥) → non_empty (listed x y z) ≡ true
 some_listed x y z n =
-    some_both (flagged x (name_at 0 20)) (flagged y (name_at 1 21) ++ flagged z (name_at 2 20))
-    ∙ ap (λ (b : Bool). non_empty (flagged x (name_at 0 20)) || b) (some_both (flagged y (name_at 1 21)) (flagged z (name_at 2 20)))
-    ∙ ap (λ (b : Bool). b || (non_empty (flagged y (name_at 1 21)) || non_empty (flagged z (name_at 2 20)))) (some_flag x (name_at 0 20))
-    ∙ ap (λ (b : Bool). is_there x || (b || non_empty (flagged z (name_at 2 20)))) (some_flag y (name_at 1 21))
-    ∙ ap (λ (b : Bool). is_there x || (is_there y || b)) (some_flag z (name_at 2 20))
+    some_both (flagged x FORECAST) (flagged y QUERY ++ flagged z SEND)
+    ∙ ap (λ (b : Bool). non_empty (flagged x FORECAST) || b) (some_both (flagged y QUERY) (flagged z SEND))
+    ∙ ap (λ (b : Bool). b || (non_empty (flagged y QUERY) || non_empty (flagged z SEND))) (some_flag x FORECAST)
+    ∙ ap (λ (b : Bool). is_there x || (b || non_empty (flagged z SEND))) (some_flag y QUERY)
+    ∙ ap (λ (b : Bool). is_there x || (is_there y || b)) (some_flag z SEND)
     ∙ any x y z n
   where
     any : (x y z : ℕ) → (x + y + z ≡ 0 → ⊥) → is_there x || (is_there y || is_there z) ≡ true
@@ -103,19 +115,19 @@ pub features_none : (n : Bytes) (bits : ℕ) → bits % 2 + bits / 2 % 2 + bits 
 features_none n bits e = ap (closed n) (listed_is bits ∙ none_listed (bits % 2) (bits / 2 % 2) (bits / 4 % 2) e)
 
 pub features_are : (n : Bytes) (bits : ℕ) → (bits % 2 + bits / 2 % 2 + bits / 4 % 2 ≡ 0 → ⊥)
-    → Made (closed n (features_in bits)) (text ">" ∷ flagged (bits % 2) (name_at 0 20) ∷ flagged (bits / 2 % 2) (name_at 1 21) ∷ flagged (bits / 4 % 2) (name_at 2 20) ∷ end_tag n ∷ [])
+    → Made (closed n (features_in bits)) (text ">" ∷ flagged (bits % 2) FORECAST ∷ flagged (bits / 2 % 2) QUERY ∷ flagged (bits / 4 % 2) SEND ∷ end_tag n ∷ [])
 features_are n bits h = record {
   is =
       ap (closed n) (listed_is bits)
       ∙ closed_filled n (listed (bits % 2) (bits / 2 % 2) (bits / 4 % 2)) (some_listed (bits % 2) (bits / 2 % 2) (bits / 4 % 2) h)
-      ∙ ap (λ (y : Bytes). text ">" ++ y) (regroup (flagged (bits % 2) (name_at 0 20)) (flagged (bits / 2 % 2) (name_at 1 21)) (flagged (bits / 4 % 2) (name_at 2 20)) (end_tag n));
+      ∙ ap (λ (y : Bytes). text ">" ++ y) (regroup (flagged (bits % 2) FORECAST) (flagged (bits / 2 % 2) QUERY) (flagged (bits / 4 % 2) SEND) (end_tag n));
 }
   where
     regroup : (a b c e : Bytes) → (a ++ (b ++ c)) ++ e ≡ a ++ (b ++ (c ++ (e ++ [])))
     regroup a b c e = append_assoc a (b ++ c) e ∙ ap (λ (y : Bytes). a ++ y) (append_assoc b c e ∙ ap (λ (y : Bytes). b ++ (c ++ y)) (sym (append-nil e)))
 
 -- the child of a row
-some_child : (F : Form) (n : Bytes) (t a : ℕ) → non_empty (child_of n (field_by F t a 0 [])) ≡ is_child F && is_there t
+some_child : (F : Form) (n : Bytes) (t a : ℕ) → non_empty (child_of n (field_by F t a 0 [])) ≡ form_child F && is_there t
 unfolding child_of field_by features_by
 some_child (words k) n t a = refl
 some_child (some_words k) n t a = refl
@@ -129,33 +141,47 @@ some_child features n t a = go (is_there t)
     go true = refl
     go false = refl
 
-some_row : (c : Coded) (t a : ℕ) {r : Bool} → r ≡ eqb c.form 0 && is_there t → non_empty (child_bytes c t a) ≡ r
+some_row : (c : Coded) (t a : ℕ) {r : Bool} → r ≡ is_child c.form && is_there t → non_empty (child_bytes c t a) ≡ r
 unfolding child_bytes
-some_row c t a e = some_child (row_of c).form (row_of c).name t a ∙ ap (λ (b : Bool). b && is_there t) (child_form c.form c.low c.high) ∙ sym e
+some_row c t a e = some_child (row_of c).form (row_of c).name t a ∙ ap (λ (b : Bool). b && is_there t) (child_form c.form) ∙ sym e
 
-pub no_child_case : (c : Coded) (t a : ℕ) {r : Bool} → r ≡ eqb c.form 0 && is_there t → r ≡ false → child_bytes c t a ≡ []
+no_child_case : (c : Coded) (t a : ℕ) {r : Bool} → r ≡ is_child c.form && is_there t → r ≡ false → child_bytes c t a ≡ []
 no_child_case c t a e f = empty (child_bytes c t a) (some_row c t a e ∙ f)
+
+-- no child, by the form or by the cell
+pub no_child_here : (c : Coded) (t a : ℕ) → (is_child c.form ≡ false) ⊎ (t ≡ 0) → child_bytes c t a ≡ []
+no_child_here c t a (inl e) = no_child_case c t a {r = is_child c.form && is_there t} refl (rw e refl)
+no_child_here c t a (inr e) = no_child_case c t a {r = is_child c.form && is_there t} refl (rw e (not_both (is_child c.form)))
+  where
+    not_both : (x : Bool) → x && false ≡ false
+    not_both true = refl
+    not_both false = refl
 
 there_child : (n : Bytes) (t a : ℕ) → is_there t ≡ true → child_of n (a_features (features_by t a)) ≡ start_tag n ++ closed n (features_in a)
 unfolding child_of features_by features_in
 there_child n t a h = rw h refl
 
-pub child_is : (c : Coded) (t a : ℕ) {r : Bool} {n : Bytes} → r ≡ eqb c.form 0 && is_there t → r ≡ true → n ≡ name_at c.line c.len → Made (child_bytes c t a) (start_tag n ∷ closed n (features_in a) ∷ [])
-unfolding child_bytes field_by
-child_is c t a {r} {n} e f q =
-    let b : eqb c.form 0 && is_there t ≡ true = sym e ∙ f in
-    record {
-      is =
-          ap (λ (F : Form). child_of (row_of c).name (field_by F t a 0 [])) (form_is c 0 (eqb-true c.form 0 (and_left (eqb c.form 0) (is_there t) b)))
-          ∙ there_child (row_of c).name t a (and_right (eqb c.form 0) (is_there t) b)
-          ∙ ap (λ (n : Bytes). start_tag n ++ closed n (features_in a)) (sym q)
-          ∙ ap (λ (y : Bytes). start_tag n ++ y) (sym (append-nil (closed n (features_in a))));
-    }
+child_by : (F : CodedForm) (n : Bytes) (t a : ℕ) → is_child F ≡ true → is_there t ≡ true → child_of n (field_by (form_of F) t a 0 []) ≡ start_tag n ++ closed n (features_in a)
+unfolding field_by
+child_by Features n t a b h = there_child n t a h
+child_by (Text most) n t a b h = clash (sym b)
+child_by (SomeText most) n t a b h = clash (sym b)
+child_by (Int low high) n t a b h = clash (sym b)
+child_by Guid n t a b h = clash (sym b)
+child_by Version n t a b h = clash (sym b)
+child_by Positive n t a b h = clash (sym b)
+
+pub child_is : (c : Coded) (t a : ℕ) → is_child c.form ≡ true → (t ≡ 0 → ⊥) → Made (child_bytes c t a) (start_tag c.name.now ∷ closed c.name.now (features_in a) ∷ [])
+unfolding child_bytes
+child_is c t a b n = record { is = child_by c.form c.name.now t a b (is_there_lem t n) ∙ ap (λ (y : Bytes). start_tag c.name.now ++ y) (sym (append-nil (closed c.name.now (features_in a)))) }
 
 -- whether there is one, here or further on
-module _ (c : Coded) (t a : ℕ) (rest : Bytes) {r : Bool} (e : r ≡ eqb c.form 0 && is_there t) where
-  pub child_found : r ≡ true → non_empty (child_bytes c t a ++ rest) ≡ true
-  child_found f = some_both (child_bytes c t a) rest ∙ ap (λ (b : Bool). b || non_empty rest) (some_row c t a e ∙ f)
+module _ (c : Coded) (t a : ℕ) (rest : Bytes) where
+  pub child_found : is_child c.form ≡ true → (t ≡ 0 → ⊥) → non_empty (child_bytes c t a ++ rest) ≡ true
+  child_found e n =
+      let p : is_child c.form && is_there t ≡ true = rw (e, is_there_lem t n) refl in
+      some_both (child_bytes c t a) rest ∙ ap (λ (b : Bool). b || non_empty rest) (some_row c t a refl ∙ p)
 
-  pub child_later : r ≡ false → non_empty (child_bytes c t a ++ rest) ≡ non_empty rest
-  child_later f = some_both (child_bytes c t a) rest ∙ ap (λ (b : Bool). b || non_empty rest) (some_row c t a e ∙ f)
+  pub child_later : {r : Bool} → r ≡ is_child c.form → (r ≡ false) ⊎ (t ≡ 0) → non_empty (child_bytes c t a ++ rest) ≡ non_empty rest
+  child_later q (inl e) = ap (λ (x : Bytes). non_empty (x ++ rest)) (no_child_here c t a (inl (sym q ∙ e)))
+  child_later q (inr e) = ap (λ (x : Bytes). non_empty (x ++ rest)) (no_child_here c t a (inr e))

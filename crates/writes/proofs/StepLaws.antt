@@ -1,9 +1,9 @@
--- The rows of a range one behind the other: what is left at the row i is that row and what is left behind it. Nothing here speaks of a kind.
+-- The rows one behind the other, each with its cell. Nothing here speaks of a kind.
 use mathlib.Core.Path.{◌≡◌, refl, sym, ap, subst, ◌∙◌}
 use mathlib.Core.List.{List, [], ◌∷◌, ◌++◌, append_assoc, append-nil}
 use Prim.Native.Nat.{ℕ, zero, suc, ◌+◌, ◌-◌, ◌*◌, ◌≤◌, ◌<◌}
 use native.Mathlib.Omega.{arith}
-use lib.ListN.{length, length-append}
+use lib.ListN.{length, get_or, length-append}
 use Rattle.grammar.specs.Bytes.{Bytes}
 use Rattle.printing.specs.Put.{Countable, Wrote}
 use Rattle.printing.specs.Writes.{wrote_none, ◌then◌}
@@ -13,24 +13,14 @@ use Rattle.message.specs.Fields.{Field}
 use Rattle.message.specs.Cells.{field_by, cell_at, fields_from}
 use Rattle.meant.specs.Meant.{meant_of, first_in}
 use Rattle.meant.specs.Written.{attributes_of, child_of, children_of}
-use Rattle.rows.specs.Coding.{row_of, coded_at, rows_from, ROWS, LINES, WIDTH}
+use Rattle.refusals.specs.Numbers.{number_of}
+use Rattle.refusals.specs.declared.Refusal.{Refusal}
+use Rattle.refusals.specs.declared.Refusal.TheVariants.{Incomplete, Malformed, MessageTooLong, Missing, TextTooLong, BadValue, NoRoom, MayNotBeSent, ProtocolError}
+use Rattle.cells.specs.declared.numbers.Cell.{Cell}
+use Rattle.rows.specs.Coding.{row_of}
 use Rattle.rows.specs.declared.data.Row.{Row as Coded}
-use Rattle.rows.proofs.CodingLaws.{next_row, no_row, row_sound}
+use Rattle.rows.proofs.RowLaws.{left, next_row, no_row}
 use Rattle.writes.specs.Rows.{row_refusal, row_bytes, child_bytes, refusal_from, attributes_from, children_from}
-
--- the rows that are left at the row i
-abbrev pub left : ℕ → ℕ → ℕ → List Row
-left f n i = rows_from (f + i) (n - i)
-
-pub all_left : {X : Type 0} (F : List Row → X) (f n : ℕ) → F (rows_from f n) ≡ F (left f n 0)
-all_left F f n =
-    let p : f ≡ f + 0 = omega arith in
-    let q : n ≡ n - 0 = omega arith in
-    ap (λ (m : ℕ). F (rows_from m n)) p ∙ ap (λ (m : ℕ). F (rows_from (f + 0) m)) q
-
--- a name is on its line
-pub named : (j : ℕ) {c : Coded} → j < ROWS → c ≡ coded_at j → (c.line < LINES) × (c.len ≤ WIDTH)
-named j {c} h e = subst (λ (c : Coded). (c.line < LINES) × (c.len ≤ WIDTH)) (sym e) ((row_sound j h).line, (row_sound j h).len)
 
 -- a child is the same whatever the third number and the id
 child_same : (F : Form) (n : Bytes) (t a b : ℕ) (id : Bytes) → child_of n (field_by F t a b id) ≡ child_of n (field_by F t a 0 [])
@@ -53,51 +43,62 @@ children_same (r ∷ l) i cells id =
     here : (id : Bytes) → child_of r.name (field_by r.form (cell_at cells (3 * i)) (cell_at cells (3 * i + 1)) (cell_at cells (3 * i + 2)) id) ≡ child_of r.name (field_by r.form (cell_at cells (3 * i)) (cell_at cells (3 * i + 1)) 0 [])
     here id = child_same r.form r.name (cell_at cells (3 * i)) (cell_at cells (3 * i + 1)) (cell_at cells (3 * i + 2)) id
 
-module _ (f n i : ℕ) (cells : List ℕ) {c : Coded} {t : ℕ} (h : i < n) (ec : c ≡ coded_at (f + i)) (et : t ≡ cell_at cells (3 * i)) where
+-- the cell of the row i
+abbrev pub cell_in : List ℕ → ℕ → Cell
+cell_in cells i = record { there = cell_at cells (3 * i); a = cell_at cells (3 * i + 1); b = cell_at cells (3 * i + 2) }
+
+module _ (l : List Coded) (i : ℕ) (cells : List ℕ) (d : Coded) {x : Cell} (h : i < length l) (ex : x ≡ cell_in cells i) where
   -- of the row and its field
-  step : {X : Type 0} (F : List Row → List Field → X) (id : Bytes) {a b : ℕ} → a ≡ cell_at cells (3 * i + 1) → b ≡ cell_at cells (3 * i + 2)
-      → F (left f n i) (fields_from (left f n i) i cells id) ≡ F (row_of c ∷ left f n (i + 1)) (field_by (row_of c).form t a b id ∷ fields_from (left f n (i + 1)) (i + 1) cells id)
+  step : {X : Type 0} (F : List Row → List Field → X) (id : Bytes) → F (left l i) (fields_from (left l i) i cells id) ≡ F (row_of (get_or l i d) ∷ left l (i + 1)) (field_by (row_of (get_or l i d)).form x.there x.a x.b id ∷ fields_from (left l (i + 1)) (i + 1) cells id)
   unfolding fields_from
-  step F id {a} {b} ea eb =
-      ap (λ (l : List Row). F l (fields_from l i cells id)) (next_row f n i h)
-      ∙ ap (λ (c : Coded). F (row_of c ∷ left f n (i + 1)) (field_by (row_of c).form (cell_at cells (3 * i)) (cell_at cells (3 * i + 1)) (cell_at cells (3 * i + 2)) id ∷ fields_from (left f n (i + 1)) (i + 1) cells id)) (sym ec)
-      ∙ ap (λ (t : ℕ). F (row_of c ∷ left f n (i + 1)) (field_by (row_of c).form t (cell_at cells (3 * i + 1)) (cell_at cells (3 * i + 2)) id ∷ fields_from (left f n (i + 1)) (i + 1) cells id)) (sym et)
-      ∙ ap (λ (a : ℕ). F (row_of c ∷ left f n (i + 1)) (field_by (row_of c).form t a (cell_at cells (3 * i + 2)) id ∷ fields_from (left f n (i + 1)) (i + 1) cells id)) (sym ea)
-      ∙ ap (λ (b : ℕ). F (row_of c ∷ left f n (i + 1)) (field_by (row_of c).form t a b id ∷ fields_from (left f n (i + 1)) (i + 1) cells id)) (sym eb)
+  step F id =
+      ap (λ (l : List Row). F l (fields_from l i cells id)) (next_row l i d h)
+      ∙ ap (λ (x : Cell). F (row_of (get_or l i d) ∷ left l (i + 1)) (field_by (row_of (get_or l i d)).form x.there x.a x.b id ∷ fields_from (left l (i + 1)) (i + 1) cells id)) (sym ex)
 
-  pub refusal_step : (id texts : Bytes) {a b r : ℕ} → a ≡ cell_at cells (3 * i + 1) → b ≡ cell_at cells (3 * i + 2) → r ≡ row_refusal c t a b id texts → refusal_from (left f n i) i cells id texts ≡ first r (refusal_from (left f n (i + 1)) (i + 1) cells id texts)
+  pub refusal_step : (id texts : Bytes) {r : ℕ} → r ≡ row_refusal (get_or l i d) x.there x.a x.b id texts → refusal_from (left l i) i cells id texts ≡ first r (refusal_from (left l (i + 1)) (i + 1) cells id texts)
   unfolding refusal_from meant_of row_refusal
-  refusal_step id texts ea eb er = step (λ l x. first_in (meant_of l x texts)) id ea eb ∙ ap (λ (x : ℕ). first x (refusal_from (left f n (i + 1)) (i + 1) cells id texts)) (sym er)
+  refusal_step id texts er = step (λ l x. first_in (meant_of l x texts)) id ∙ ap (λ (x : ℕ). first x (refusal_from (left l (i + 1)) (i + 1) cells id texts)) (sym er)
 
-  pub attributes_step : (id texts : Bytes) {a b : ℕ} → a ≡ cell_at cells (3 * i + 1) → b ≡ cell_at cells (3 * i + 2) → attributes_from (left f n i) i cells id texts ≡ row_bytes c t a b id texts ++ attributes_from (left f n (i + 1)) (i + 1) cells id texts
+  pub attributes_step : (id texts : Bytes) → attributes_from (left l i) i cells id texts ≡ row_bytes (get_or l i d) x.there x.a x.b id texts ++ attributes_from (left l (i + 1)) (i + 1) cells id texts
   unfolding attributes_from attributes_of row_bytes
-  attributes_step id texts ea eb = step (λ l x. attributes_of l x texts) id ea eb
+  attributes_step id texts = step (λ l x. attributes_of l x texts) id
 
-  pub children_step : {a : ℕ} → a ≡ cell_at cells (3 * i + 1) → children_from (left f n i) i cells ≡ child_bytes c t a ++ children_from (left f n (i + 1)) (i + 1) cells
+  pub children_step : children_from (left l i) i cells ≡ child_bytes (get_or l i d) x.there x.a ++ children_from (left l (i + 1)) (i + 1) cells
   unfolding children_from children_of child_bytes
-  children_step {a} ea = step (λ l x. children_of l x) [] ea refl ∙ ap (λ (y : Bytes). y ++ children_from (left f n (i + 1)) (i + 1) cells) (child_same (row_of c).form (row_of c).name t a (cell_at cells (3 * i + 2)) [])
+  children_step = step (λ l x. children_of l x) [] ∙ ap (λ (y : Bytes). y ++ children_from (left l (i + 1)) (i + 1) cells) (child_same (row_of (get_or l i d)).form (row_of (get_or l i d)).name x.there x.a x.b [])
 
 -- behind the last row
-module _ (f n i : ℕ) (cells : List ℕ) (h : n ≤ i) where
-  pub no_refusal : (id texts : Bytes) → refusal_from (left f n i) i cells id texts ≡ 0
+module _ (l : List Coded) (i : ℕ) (cells : List ℕ) (h : length l ≤ i) where
+  pub no_refusal : (id texts : Bytes) → refusal_from (left l i) i cells id texts ≡ 0
   unfolding refusal_from fields_from meant_of
-  no_refusal id texts = ap (λ (l : List Row). refusal_from l i cells id texts) (no_row f n i h)
+  no_refusal id texts = ap (λ (l : List Row). refusal_from l i cells id texts) (no_row l i h)
 
-  pub no_attributes : (id texts : Bytes) → attributes_from (left f n i) i cells id texts ≡ []
+  pub no_attributes : (id texts : Bytes) → attributes_from (left l i) i cells id texts ≡ []
   unfolding attributes_from fields_from attributes_of
-  no_attributes id texts = ap (λ (l : List Row). attributes_from l i cells id texts) (no_row f n i h)
+  no_attributes id texts = ap (λ (l : List Row). attributes_from l i cells id texts) (no_row l i h)
 
-  pub no_children : children_from (left f n i) i cells ≡ []
+  pub no_children : children_from (left l i) i cells ≡ []
   unfolding children_from fields_from children_of
-  no_children = ap (λ (l : List Row). children_from l i cells) (no_row f n i h)
+  no_children = ap (λ (l : List Row). children_from l i cells) (no_row l i h)
 
 -- the first that refuses
-pub decides : (r x : ℕ) → (r ≡ 0 → ⊥) → first r x ≡ r
-decides zero x n = absurd (n refl)
-decides (suc r) x n = refl
+pub not_zero : (r : Refusal) → number_of r ≡ 0 → ⊥
+not_zero Incomplete e = absurd (omega arith)
+not_zero Malformed e = absurd (omega arith)
+not_zero MessageTooLong e = absurd (omega arith)
+not_zero Missing e = absurd (omega arith)
+not_zero TextTooLong e = absurd (omega arith)
+not_zero BadValue e = absurd (omega arith)
+not_zero NoRoom e = absurd (omega arith)
+not_zero MayNotBeSent e = absurd (omega arith)
+not_zero ProtocolError e = absurd (omega arith)
 
-pub passes_on : {r : ℕ} (x : ℕ) → r ≡ 0 → first r x ≡ x
-passes_on x e = rw e
+pub decides : (r : Refusal) (x : ℕ) → first (number_of r) x ≡ number_of r
+decides r x = go (number_of r) (not_zero r)
+  where
+    go : (n : ℕ) → (n ≡ 0 → ⊥) → first n x ≡ n
+    go zero n = absurd (n refl)
+    go (suc n) k = refl
 
 -- some of it is put down, the rest is left
 pub record Going (old : Bytes) (at : ℕ) (total rest new : Bytes) (r : ℕ) : Type 0 where

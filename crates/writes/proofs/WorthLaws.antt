@@ -9,22 +9,27 @@ use Rattle.number.specs.Positive.{BEHIND}
 use Rattle.number.specs.Guid.{guid_of}
 use Rattle.spelling.specs.Written.{matter}
 use Rattle.table.specs.Table.{Form, words, some_words, whole, guid, version, positive, features}
-use Rattle.table.specs.Says.{Value, an_int, millionths, an_id, when, without, refusal_in}
-use Rattle.table.specs.Theorems.{by_flag}
+use Rattle.table.specs.Says.{Result, Value, by_need, an_int, millionths, an_id, when, without, refusal_in}
 use Rattle.message.specs.Fields.{Field}
 use Rattle.message.specs.Cells.{is_there, words_by, whole_by, measure_by, guid_by, features_by, field_by}
 use Rattle.meant.specs.Meant.{MOST, text_meant, meant_as, meant_by}
-use Rattle.rows.specs.Coding.{form_in, row_of}
+use Rattle.rows.specs.Coding.{need_of, may_miss, row_of}
+use Rattle.rows.specs.declared.data.Need.{Need as CodedNeed}
+use Rattle.rows.specs.declared.data.Need.TheVariants.{Required, Optional}
 use Rattle.rows.specs.declared.data.Row.{Row as Coded}
 use Rattle.writes.specs.Rows.{span_of, row_refusal}
 
 pub is_there_lem : (t : ℕ) → (t ≡ 0 → ⊥) → is_there t ≡ true
 is_there_lem t n = ap not (ne_eqb t 0 n)
 
--- a row of the code has a flag for its need
-flagged : (c : Coded) (x : Field) (texts : Bytes) → refusal_in (meant_by (row_of c) x texts) ≡ refusal_in (meant_as (row_of c).form x texts (eqb c.need 1))
+-- a row of the code must be there, or may be missing
+by_coded : (n : CodedNeed) (f : Bool → Result) → by_need (need_of n) f ≡ f (may_miss n)
+by_coded Required f = refl
+by_coded Optional f = refl
+
+flagged : (c : Coded) (x : Field) (texts : Bytes) → refusal_in (meant_by (row_of c) x texts) ≡ refusal_in (meant_as (row_of c).form x texts (may_miss c.need))
 unfolding meant_by
-flagged c x texts = ap refusal_in (by_flag (eqb c.need 1) (meant_as (row_of c).form x texts))
+flagged c x texts = ap refusal_in (by_coded c.need (meant_as (row_of c).form x texts))
 
 -- not there
 none_worth : (F : Form) (o : Bool) (a b : ℕ) (id texts : Bytes) → refusal_in (meant_as F (field_by F 0 a b id) texts o) ≡ refusal_in (without o)
@@ -37,9 +42,9 @@ none_worth version o a b id texts = refl
 none_worth positive o a b id texts = refl
 none_worth features o a b id texts = refl
 
-pub worth_absent : (c : Coded) (t a b : ℕ) (id texts : Bytes) {r : ℕ} → t ≡ 0 → r ≡ refusal_in (without (eqb c.need 1)) → r ≡ row_refusal c t a b id texts
+pub worth_absent : (c : Coded) (t a b : ℕ) (id texts : Bytes) {r : ℕ} → t ≡ 0 → r ≡ refusal_in (without (may_miss c.need)) → r ≡ row_refusal c t a b id texts
 unfolding row_refusal
-worth_absent c t a b id texts e h = h ∙ sym (ap (λ (t : ℕ). refusal_in (meant_by (row_of c) (field_by (row_of c).form t a b id) texts)) e ∙ flagged c (field_by (row_of c).form 0 a b id) texts ∙ none_worth (row_of c).form (eqb c.need 1) a b id texts)
+worth_absent c t a b id texts e h = h ∙ sym (ap (λ (t : ℕ). refusal_in (meant_by (row_of c) (field_by (row_of c).form t a b id) texts)) e ∙ flagged c (field_by (row_of c).form 0 a b id) texts ∙ none_worth (row_of c).form (may_miss c.need) a b id texts)
 
 -- there
 abbrev pub worth_of : Form → ℕ → ℕ → Bytes → Bytes → ℕ
@@ -67,14 +72,7 @@ there_worth features o t a b id texts h = rw h refl
 
 pub said : (c : Coded) (t a b : ℕ) (id texts : Bytes) {r : ℕ} (F : Form) → (t ≡ 0 → ⊥) → (row_of c).form ≡ F → r ≡ worth_of F a b id texts → r ≡ row_refusal c t a b id texts
 unfolding row_refusal
-said c t a b id texts F n e h = h ∙ ap (λ (F : Form). worth_of F a b id texts) (sym e) ∙ sym (flagged c (field_by (row_of c).form t a b id) texts ∙ there_worth (row_of c).form (eqb c.need 1) t a b id texts (is_there_lem t n))
-
--- the form of a number
-pub form_is : (c : Coded) (k : ℕ) → c.form ≡ k → (row_of c).form ≡ form_in k c.low c.high
-form_is c k e = ap (λ (f : ℕ). form_in f c.low c.high) e
-
-pub form_last : (c : Coded) → (c.form ≡ 0 → ⊥) → (c.form ≡ 1 → ⊥) → (c.form ≡ 2 → ⊥) → (c.form ≡ 3 → ⊥) → (c.form ≡ 4 → ⊥) → (c.form ≡ 5 → ⊥) → (row_of c).form ≡ positive
-form_last c n0 n1 n2 n3 n4 n5 = rw (ne_eqb c.form 0 n0, ne_eqb c.form 1 n1, ne_eqb c.form 2 n2, ne_eqb c.form 3 n3, ne_eqb c.form 4 n4, ne_eqb c.form 5 n5)
+said c t a b id texts F n e h = h ∙ ap (λ (F : Form). worth_of F a b id texts) (sym e) ∙ sym (flagged c (field_by (row_of c).form t a b id) texts ∙ there_worth (row_of c).form (may_miss c.need) t a b id texts (is_there_lem t n))
 
 -- between two numbers
 pub low : (lo hi k : ℕ) → k < lo → within lo hi k ≡ false

@@ -1,5 +1,5 @@
 -- The rows of a message of cells: what each puts down and why it may be refused, and the rows one behind the other.
-use Rattle.std.specs.Prelude.{◌≡◌, List, [], ◌++◌, cond, ℕ, ◌/◌, length}
+use Rattle.std.specs.Prelude.{◌≡◌, List, [], ◌++◌, cond, ℕ, ◌/◌, length, Result, Ok, Err}
 use Rattle.grammar.specs.Bytes.{Bytes, text}
 use Rattle.number.specs.Digits.{print_int}
 use Rattle.spelling.specs.Written.{escape, print_decimal}
@@ -9,8 +9,10 @@ use Rattle.table.specs.Says.{refusal_in}
 use Rattle.message.specs.Cells.{is_there, bit, field_by, fields_from}
 use Rattle.meant.specs.Meant.{text_at, meant_by, meant_of, first_in}
 use Rattle.meant.specs.Written.{attribute_of, attributes_of, empty_tag, features_inside, child_of, children_of, written_by}
-use Rattle.meant.specs.Writes.{answer_by, buffer_by}
+use Rattle.meant.specs.Writes.{refused_by, answer_by, buffer_by}
 use Rattle.meant.specs.declared.Written.{Written}
+use Rattle.refusals.specs.Numbers.{number_of}
+use Rattle.refusals.specs.declared.Refusal.{Refusal}
 use Rattle.rows.specs.Coding.{row_of}
 use Rattle.rows.specs.declared.data.Row.{Row as Coded}
 
@@ -68,3 +70,8 @@ features_in bits = features_inside (record { forecast = bit bits; query = bit (b
 pub record CellsWritten (k : ℕ) (cells : List ℕ) (id texts old new : Bytes) (r : Written) : Type 0 where
   pub answer : r ≡ answer_by k (refusal_from (rows_of k) 0 cells id texts) (written_from k cells id texts) (length old)
   pub buffer : new ≡ buffer_by k (refusal_from (rows_of k) 0 cells id texts) (written_from k cells id texts) old
+
+-- an answer as it is told
+abbrev pub answered : Result ℕ Refusal → Written
+answered (Ok n) = record { refusal = 0; count = n }
+answered (Err r) = refused_by (number_of r)

@@ -8,6 +8,7 @@ mod putting;
 mod refusing;
 mod sending;
 mod texts;
+mod values;
 
 pub use meant::Written;
 pub use messages::write_cells;

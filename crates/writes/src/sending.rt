@@ -5,26 +5,25 @@ ghost use Rattle.meant.specs.Writes.{Writes};
 ghost use Rattle.message.specs.Messages.{message_by};
 
 use crate::messages::write_cells;
-use crate::refusing::refusal_of_rows;
+use crate::refusing::rows_allow;
+use crate::values::Values;
 use meant::Written;
 use message::Message;
-use rows::data::NUMBERS;
+use refusals::told;
+use rows::data::rows_of;
 
 /// 4, 5 or 6 by the first row of the kind that refuses these cells, or 0.
 pub fn refusal_of_cells(kind: u8, cells: &[u64], id: &[u8], texts: &[u8]) -> u8
     ensures { result ≡ refusal_of (message_by kind cells.now id.now) texts.now }
 {
-    let numbers = NUMBERS;
-    refusal_of_rows(&numbers, kind, cells, id, texts)
+    told(rows_allow(rows_of(kind), &Values { cells, id, texts }))
 }
 
 /// 4, 5 or 6 by the first row that refuses, or 0. Kinds without rows are not refused here.
 pub fn refusal_of(m: Message, texts: &[u8]) -> u8
     ensures { result ≡ refusal_of m texts.now }
 {
-    let cells = m.cells;
-    let id = m.id;
-    refusal_of_cells(m.kind, &cells, &id, texts)
+    refusal_of_cells(m.kind, &m.cells, &m.id, texts)
 }
 
 /// Writes a message, whose texts are parts of `texts`, first into the buffer. 4, 5, 6 as the first row in table order refuses it; 8 for a kind
@@ -32,7 +31,5 @@ pub fn refusal_of(m: Message, texts: &[u8]) -> u8
 pub fn write(m: Message, texts: &[u8], out: &mut [u8]) -> Written
     ensures { Writes m texts.now out.old out.new result }
 {
-    let cells = m.cells;
-    let id = m.id;
-    write_cells(m.kind, &cells, &id, texts, out)
+    write_cells(m.kind, &m.cells, &m.id, texts, out)
 }

@@ -2,8 +2,10 @@
 ghost use Rattle.std.specs.Prelude.{◌≡◌};
 ghost use Rattle.table.specs.Table.{words, some_words, version};
 ghost use Rattle.table.specs.Says.{refusal_in};
+ghost use Rattle.refusals.specs.Numbers.{told};
 ghost use Rattle.meant.specs.Meant.{sendable as canBeSent, text_at, text_meant};
 
+use refusals::Refusal;
 use value::Span;
 
 /// The part of the texts at p; what lies outside of them is cut off.
@@ -37,46 +39,40 @@ fn is_sendable(texts: &[u8], p: Span) -> bool
 }
 
 /// A text of at most so many bytes.
-pub fn text(texts: &[u8], p: Span, most: u64) -> u8
-    ensures { result ≡ refusal_in (text_meant (words most) texts.now p) }
+pub fn text(texts: &[u8], p: Span, most: u16) -> Result<(), Refusal>
+    ensures { told result ≡ refusal_in (text_meant (words most) texts.now p) }
 {
-    let len = p.len as u64;
-    if most < len {
-        return 5;
+    if (most as usize) < p.len {
+        return Err(Refusal::TextTooLong);
     }
     if is_sendable(texts, p) {
-        return 0;
+        return Ok(());
     }
-    6
+    Err(Refusal::BadValue)
 }
 
 /// A text of at least one and at most so many bytes.
-pub fn some_text(texts: &[u8], p: Span, most: u64) -> u8
-    ensures { result ≡ refusal_in (text_meant (some_words most) texts.now p) }
+pub fn some_text(texts: &[u8], p: Span, most: u16) -> Result<(), Refusal>
+    ensures { told result ≡ refusal_in (text_meant (some_words most) texts.now p) }
 {
-    let len = p.len as u64;
-    if most < len {
-        return 5;
+    if (most as usize) < p.len {
+        return Err(Refusal::TextTooLong);
     }
-    if len == 0 {
-        return 6;
+    if p.len == 0 {
+        return Err(Refusal::BadValue);
     }
     if is_sendable(texts, p) {
-        return 0;
+        return Ok(());
     }
-    6
+    Err(Refusal::BadValue)
 }
 
 /// A Version.
-pub fn a_version(texts: &[u8], p: Span) -> u8
-    ensures { result ≡ refusal_in (text_meant version texts.now p) }
+pub fn a_version(texts: &[u8], p: Span) -> Result<(), Refusal>
+    ensures { told result ≡ refusal_in (text_meant version texts.now p) }
 {
-    if is_sendable(texts, p) {
-        let v = part(texts, p);
-        if shapes::is_version(v) {
-            return 0;
-        }
-        return 6;
+    if is_sendable(texts, p) && shapes::is_version(part(texts, p)) {
+        return Ok(());
     }
-    6
+    Err(Refusal::BadValue)
 }

@@ -1,7 +1,5 @@
 -- Each answer by the outline.
 use mathlib.Core.Path.{refl}
-use Rattle.table.specs.Table.{table}
-use Rattle.rows.specs.Coding.{numbers, names}
 use Rattle.reads.proofs.OutlineLaws.{known_sketch, accepted_order, accepted_in, accepted_held}
 use Rattle.decides.proofs.DecideLaws.{decides_end, decides_more, decides_malformed, decides_too_long}
 use Rattle.decides.proofs.decided.Goals as goal
@@ -11,10 +9,6 @@ sort_of-sort-requires c = let a = (known_sketch c.in-Ok.is c.outline.ensures).ac
 
 pub invariant_of-attributes : goal.invariant_of-attributes
 invariant_of-attributes c = record { held = ∣ accepted_held (known_sketch c.in-Ok.is c.outline.ensures).accepted refl ∣₁ }
-
-pub rule-requires : goal.rule-requires
-unfolding numbers names table
-rule-requires c = (refl, refl)
 
 pub returns-in-Ok : goal.returns-in-Ok
 returns-in-Ok c = decides_end (known_sketch c.in-Ok.is c.outline.ensures) refl c.sort_of-sort.ensures c.rule.ensures c.made.ensures

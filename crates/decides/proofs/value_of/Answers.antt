@@ -3,8 +3,8 @@ use mathlib.Core.Path.{refl}
 use Rattle.decides.proofs.DecideLaws.{child_stands, attribute_stands}
 use Rattle.decides.proofs.value_of.Goals as goal
 
-pub returns-then-row-eq0 : goal.returns-then-row-eq0
-returns-then-row-eq0 c = child_stands c.args.row c.if-row-eq0.true refl
+pub returns-then-is_child : goal.returns-then-is_child
+returns-then-is_child c = child_stands c.args.row.now c.is_child.ensures c.if-is_child.true refl
 
 pub returns : goal.returns
-returns c = attribute_stands c.args.row c.if-row-eq0.false c.name_at-name.ensures c.find.ensures
+returns c = attribute_stands c.args.row.now c.is_child.ensures c.if-is_child.false c.find.ensures

@@ -1,14 +1,14 @@
 -- By whether the kind has an id, and whether it is there.
-use native.Mathlib.Omega.{arith}
+use Rattle.std.proofs.Common.{sym, arith}
 use Rattle.cells.proofs.IdLaws.{named_none, named_absent, named_there}
 use Rattle.cells.proofs.ids.named_id.Goals as goal
 
 -- By whether the kind has an id, and whether it is there.
-pub returns-then-at-ge-NO_ID : goal.returns-then-at-ge-NO_ID
-returns-then-at-ge-NO_ID c = named_none c.args.kind c.args.cells.now c.args.id c.id_cell-at.ensures c.if-at-ge-NO_ID.true
+pub returns-in-Some : goal.returns-in-Some
+returns-in-Some c = named_there c.args.kind c.args.cells.now c.args.id (sym c.in-Some.ensures.0) (let n = c.in-Some.ensures.1 in omega arith) c.number_at.ensures c.if-number_at-ne0.true
 
-pub returns-then-cell-eq0 : goal.returns-then-cell-eq0
-returns-then-cell-eq0 c = named_absent c.args.kind c.args.cells.now c.args.id c.id_cell-at.ensures (omega arith) c.cell.ensures c.if-cell-eq0.true
+pub returns-in_default : goal.returns-in_default
+returns-in_default c = named_absent c.args.kind c.args.cells.now c.args.id (sym c.in-Some.ensures.0) (let n = c.in-Some.ensures.1 in omega arith) c.number_at.ensures c.if-number_at-ne0.false
 
-pub returns : goal.returns
-returns c = named_there c.args.kind c.args.cells.now c.args.id c.id_cell-at.ensures (omega arith) c.cell.ensures c.if-cell-eq0.false
+pub returns-in_default-2 : goal.returns-in_default-2
+returns-in_default-2 c = named_none c.args.kind c.args.cells.now c.args.id (sym c.in_default.ensures) (omega arith)

@@ -8,4 +8,4 @@ pub returns-then-at-ge72 : goal.returns-then-at-ge72
 returns-then-at-ge72 c = names_none c.args.kind c.args.cells.now c.forecast_cell-at.ensures c.if-at-ge72.true
 
 pub returns : goal.returns
-returns c = names_one c.args.kind c.args.cells.now c.forecast_cell-at.ensures (omega arith) c.cell.ensures c.cell-2.ensures c.cell-3.ensures c.text_from.ensures
+returns c = names_one c.args.kind c.args.cells.now c.forecast_cell-at.ensures (omega arith) c.number_at.ensures c.number_at-2.ensures c.number_at-3.ensures c.text_from.ensures

@@ -1,13 +1,9 @@
-use mathlib.Core.Path.{◌≡◌}
-use Prim.Native.Nat.{◌≤◌, ◌-◌}
+use Rattle.std.proofs.Common.{◌≡◌}
 use Rattle.grammar.specs.Bytes.{non_empty}
-use Rattle.rows.specs.Coding.{rows_from}
+use Rattle.rows.specs.Coding.{as_rows}
+use Rattle.rows.proofs.RowLaws.{left}
 use Rattle.writes.specs.Rows.{children_from}
-use Rattle.writes.proofs.StepLaws.{left}
 use Rattle.writes.proofs.children.has_child.Given as goal
 
 abbrev pub invariant-loop-i : goal.invariant-loop-i
-invariant-loop-i l = (l.i ≤ l.count) × (non_empty (children_from (rows_from l.from l.count) 0 l.cells) ≡ non_empty (children_from (left l.from l.count l.i) l.i l.cells))
-
-abbrev pub decreases-loop-i : goal.decreases-loop-i
-decreases-loop-i l = l.count - l.i
+invariant-loop-i l = non_empty (children_from (as_rows l.rows) 0 l.cells) ≡ non_empty (children_from (left l.rows l.i) l.i l.cells)

@@ -14,25 +14,25 @@ pub overflow_add-forecast-2 : goal.overflow_add-forecast-2
 overflow_add-forecast-2 c = omega (arith, bit_small c.args.bits, bit_small (c.args.bits / 2), bit_small (c.args.bits / 4))
 
 pub put_empty-requires : goal.put_empty-requires
-put_empty-requires c = same_fits c.args.at (text "/>") (features_none c.args.name.now c.args.bits c.if-forecast-query-eq0.true) c.requires.1
+put_empty-requires c = same_fits c.args.at (text "/>") (features_none c.args.name.now c.args.bits c.if-forecast-query-eq0.true) c.requires
 
 pub returns-then-forecast-query-eq0 : goal.returns-then-forecast-query-eq0
 returns-then-forecast-query-eq0 c = same_put (features_none c.args.name.now c.args.bits c.if-forecast-query-eq0.true) c.put_empty.ensures
 
 pub put_byte-a-requires : goal.put_byte-a-requires
-put_byte-a-requires c = first_fits (has_room (features_are c.args.name.now c.args.bits c.if-forecast-query-eq0.false) c.requires.1)
+put_byte-a-requires c = first_fits (has_room (features_are c.args.name.now c.args.bits c.if-forecast-query-eq0.false) c.requires)
 
 pub put_flag-b-requires : goal.put_flag-b-requires
-put_flag-b-requires c = (c.requires.0, omega arith, omega arith, first_fits (rest_fits (has_room (features_are c.args.name.now c.args.bits c.if-forecast-query-eq0.false) c.requires.1) c.put_byte-a.ensures.next))
+put_flag-b-requires c = (first_fits (rest_fits (has_room (features_are c.args.name.now c.args.bits c.if-forecast-query-eq0.false) c.requires) c.put_byte-a.ensures.next))
 
 pub put_flag-c-requires : goal.put_flag-c-requires
-put_flag-c-requires c = (c.requires.0, omega arith, omega arith, first_fits (rest_fits (rest_fits (has_room (features_are c.args.name.now c.args.bits c.if-forecast-query-eq0.false) c.requires.1) c.put_byte-a.ensures.next) c.put_flag-b.ensures.next))
+put_flag-c-requires c = (first_fits (rest_fits (rest_fits (has_room (features_are c.args.name.now c.args.bits c.if-forecast-query-eq0.false) c.requires) c.put_byte-a.ensures.next) c.put_flag-b.ensures.next))
 
 pub put_flag-d-requires : goal.put_flag-d-requires
-put_flag-d-requires c = (c.requires.0, omega arith, omega arith, first_fits (rest_fits (rest_fits (rest_fits (has_room (features_are c.args.name.now c.args.bits c.if-forecast-query-eq0.false) c.requires.1) c.put_byte-a.ensures.next) c.put_flag-b.ensures.next) c.put_flag-c.ensures.next))
+put_flag-d-requires c = (first_fits (rest_fits (rest_fits (rest_fits (has_room (features_are c.args.name.now c.args.bits c.if-forecast-query-eq0.false) c.requires) c.put_byte-a.ensures.next) c.put_flag-b.ensures.next) c.put_flag-c.ensures.next))
 
 pub put_end-requires : goal.put_end-requires
-put_end-requires c = first_fits (rest_fits (rest_fits (rest_fits (rest_fits (has_room (features_are c.args.name.now c.args.bits c.if-forecast-query-eq0.false) c.requires.1) c.put_byte-a.ensures.next) c.put_flag-b.ensures.next) c.put_flag-c.ensures.next) c.put_flag-d.ensures.next)
+put_end-requires c = first_fits (rest_fits (rest_fits (rest_fits (rest_fits (has_room (features_are c.args.name.now c.args.bits c.if-forecast-query-eq0.false) c.requires) c.put_byte-a.ensures.next) c.put_flag-b.ensures.next) c.put_flag-c.ensures.next) c.put_flag-d.ensures.next)
 
 pub returns : goal.returns
 returns c = all_put (features_are c.args.name.now c.args.bits c.if-forecast-query-eq0.false) (and_put c.put_byte-a.ensures (and_put c.put_flag-b.ensures (and_put c.put_flag-c.ensures (and_put c.put_flag-d.ensures (last_put c.put_end.ensures)))))

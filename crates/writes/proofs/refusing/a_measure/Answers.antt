@@ -6,7 +6,7 @@ use Rattle.writes.proofs.refusing.a_measure.Goals as goal
 
 -- The count first, then the range.
 pub returns-then-decimals-gt-PLACES : goal.returns-then-decimals-gt-PLACES
-returns-then-decimals-gt-PLACES c = sym (count_high 1 MOST c.args.a c.args.decimals c.if-decimals-gt-PLACES.true)
+returns-then-decimals-gt-PLACES c = sym (count_high 1 MOST c.args.millionths c.args.decimals c.if-decimals-gt-PLACES.true)
 
 pub returns : goal.returns
-returns c = c.ranged.ensures ∙ sym (count_right 1 MOST c.args.a c.args.decimals c.if-decimals-gt-PLACES.false)
+returns c = c.ranged.ensures ∙ sym (count_right 1 MOST c.args.millionths c.args.decimals c.if-decimals-gt-PLACES.false)
