@@ -138,6 +138,7 @@ module _ {raw : Bytes} {start : ℕ} {F : CodedForm} where
   pub child_arm : {r : Verdict} → F ≡ Features → r ≡ int_of (refused 6) → RowJudges (form_of F) raw start r
   unfolding kept_of judged
   child_arm e q = so Features e (λ l x. q)
+
 unfolding kept_of
 absent_row (words k) o p = refl
 absent_row (some_words k) o p = refl

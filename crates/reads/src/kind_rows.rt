@@ -22,11 +22,7 @@ pub fn put(cells: &mut [u64], at: usize, cell: Cell)
 }
 
 /// Tries the rows of the kind in order, puts a cell down for each, and returns the first refusal.
-pub fn check_rows(
-    attributes: &Attributes<'_>,
-    sort: Sort,
-    cells: &mut [u64],
-) -> Result<(), Refusal>
+pub fn check_rows(attributes: &Attributes<'_>, sort: Sort, cells: &mut [u64]) -> Result<(), Refusal>
     requires { NUMBERS ≤ length cells.old }
     ensures { AllRowedIn attributes.now sort cells.old cells.new (told result) }
 {

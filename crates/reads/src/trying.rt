@@ -8,12 +8,7 @@ use crate::tried::{Tried, carried, missing};
 use rows::data::Row;
 
 /// A row tried: its attribute, for which the attribute `guess` is looked at first; or its child, which was looked for before.
-pub fn try_row(
-    attributes: &Attributes<'_>,
-    guess: usize,
-    features: Option<u64>,
-    row: &Row,
-) -> Tried
+pub fn try_row(attributes: &Attributes<'_>, guess: usize, features: Option<u64>, row: &Row) -> Tried
     ensures { RowedIn attributes.now features row.now (verdict_of result) }
 {
     if row.form.is_child() {
