@@ -8,5 +8,5 @@ use routes::route_class;
 pub fn tryphomel_route_class(route: u64) -> u8
     ensures { result ≡ class_of route }
 {
-    route_class(route)
+    route_class(route).number()
 }

@@ -3,43 +3,38 @@
 
 ghost use Rattle.std.specs.Prelude.{◌≡◌};
 ghost use Rattle.routes.specs.Classes.{class_of};
+ghost use Rattle.routes.specs.Numbers.{number_of};
 
 /// The classes of a Route. specs/Classes.antt has the same numbers.
-#[derive(Clone, Copy)]
-pub struct RouteClass;
+#[derive(Clone, Copy, PartialEq, Eq)]
+pub enum RouteClass {
+    Undefined = 0,
+    Route = 1,
+    Return = 2,
+    ManualRemoval = 3,
+    Reserved = 4,
+    Own = 5,
+}
 
 impl RouteClass {
-    pub const UNDEFINED: u8 = 0;
-
-    pub const ROUTE: u8 = 1;
-
-    pub const RETURN: u8 = 2;
-
-    pub const MANUAL_REMOVAL: u8 = 3;
-
-    pub const RESERVED: u8 = 4;
-
-    pub const OWN: u8 = 5;
+    /// The number that C is told.
+    pub fn number(self) -> u8
+        ensures { result ≡ number_of self }
+    {
+        self as u8
+    }
 }
 
 /// The class of a Route. Every number has one.
-pub fn route_class(route: u64) -> u8
-    ensures { result ≡ class_of route }
+pub fn route_class(route: u64) -> RouteClass
+    ensures { number_of result ≡ class_of route }
 {
-    if route == 0 {
-        return RouteClass::UNDEFINED;
+    match route {
+        0 => RouteClass::Undefined,
+        1..=99 => RouteClass::Route,
+        900 => RouteClass::Return,
+        999 => RouteClass::ManualRemoval,
+        100..=998 => RouteClass::Reserved,
+        _ => RouteClass::Own,
     }
-    if route <= 99 {
-        return RouteClass::ROUTE;
-    }
-    if route == 900 {
-        return RouteClass::RETURN;
-    }
-    if route == 999 {
-        return RouteClass::MANUAL_REMOVAL;
-    }
-    if route <= 998 {
-        return RouteClass::RESERVED;
-    }
-    RouteClass::OWN
 }
