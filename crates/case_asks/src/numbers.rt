@@ -1,52 +1,51 @@
 // What decoded bytes are worth.
 use case_words::line::byte;
 use case_words::show::{put, told};
-use number::{NumberRead, WholeRead};
+use number::{Int, Positive};
 use numerals::Scan;
 use routes::RouteClass;
 
-fn whole(rt: &impl Print, r: WholeRead) {
-    let WholeRead::Is(below, size) = r else {
+fn whole(rt: &impl Print, r: Option<Int>) {
+    let Some(i) = r else {
         put(rt, b"bad\n");
         return;
     };
-    if below {
+    if i.negative {
         put(rt, b"-");
     }
-    told(rt, b"", size as u64);
+    told(rt, b"", i.size as u64);
     put(rt, b"\n");
 }
 
-// The class of a Route; a number below zero is none.
-fn class(rt: &impl Print, r: WholeRead) {
-    let WholeRead::Is(below, size) = r else {
-        put(rt, b"bad\n");
-        return;
-    };
-    if below {
-        put(rt, b"bad\n");
-        return;
-    }
-    match routes::route_class(size as u64) {
-        RouteClass::UNDEFINED => put(rt, b"undefined\n"),
-        RouteClass::ROUTE => put(rt, b"a route\n"),
-        RouteClass::RETURN => put(rt, b"return\n"),
-        RouteClass::MANUAL_REMOVAL => put(rt, b"manual removal\n"),
-        RouteClass::RESERVED => put(rt, b"reserved\n"),
-        _ => put(rt, b"the line's own\n"),
+fn class(rt: &impl Print, of: RouteClass) {
+    match of {
+        RouteClass::Undefined => put(rt, b"undefined\n"),
+        RouteClass::Route => put(rt, b"a route\n"),
+        RouteClass::Return => put(rt, b"return\n"),
+        RouteClass::ManualRemoval => put(rt, b"manual removal\n"),
+        RouteClass::Reserved => put(rt, b"reserved\n"),
+        RouteClass::Own => put(rt, b"the line's own\n"),
     }
 }
 
-fn positive(rt: &impl Print, r: NumberRead) {
-    if r.ok {
-        told(rt, b"", r.millionths);
-        if 0 < r.decimals {
-            told(rt, b"+", r.decimals);
-        }
-        put(rt, b"\n");
-    } else {
-        put(rt, b"bad\n");
+// The class of a Route; a number below zero is none.
+fn route(rt: &impl Print, r: Option<Int>) {
+    match r {
+        Some(i) if !i.negative => class(rt, routes::route_class(i.size as u64)),
+        _ => put(rt, b"bad\n"),
     }
+}
+
+fn decimal(rt: &impl Print, r: Option<Positive>) {
+    let Some(p) = r else {
+        put(rt, b"bad\n");
+        return;
+    };
+    told(rt, b"", p.millionths);
+    if 0 < p.decimals {
+        told(rt, b"+", p.decimals);
+    }
+    put(rt, b"\n");
 }
 
 fn yes(rt: &impl Print, is: bool) {
@@ -59,10 +58,8 @@ fn yes(rt: &impl Print, is: bool) {
 
 fn scan(start: Scan, v: &[u8], from: usize, to: usize) -> Scan {
     let mut s = start;
-    let mut i = from;
-    while i < to {
+    for i in from..to {
         s = s.step(byte(v, i));
-        i += 1;
     }
     s
 }
@@ -79,10 +76,10 @@ fn in_two(rt: &impl Print, v: &[u8], cut: usize) {
 pub fn worth(rt: &impl Print, letter: u8, v: &[u8], cut: usize) {
     match letter {
         b'i' => whole(rt, numerals::int_of(v)),
-        b'n' => positive(rt, numerals::number_of(v)),
+        b'n' => decimal(rt, numerals::number_of(v)),
         b'g' => yes(rt, shapes::is_guid(v)),
         b'v' => yes(rt, shapes::is_version(v)),
-        b'R' => class(rt, numerals::int_of(v)),
+        b'R' => route(rt, numerals::int_of(v)),
         _ => in_two(rt, v, cut),
     }
 }

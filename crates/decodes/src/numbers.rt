@@ -8,7 +8,7 @@ ghost use Rattle.value.specs.Numbers.{IntReads, NumberReads};
 use crate::tests::is_plain;
 use crate::units::unit;
 use crate::utf8::{utf8_byte, utf8_len};
-use number::{NumberRead, WholeRead};
+use number::{Int, Positive};
 use numerals::Scan;
 
 // The scan after the bytes of the character c.
@@ -41,31 +41,21 @@ fn walked(raw: &[u8]) -> Option<Scan>
 }
 
 /// An Int, as the value reads.
-pub fn int_at(raw: &[u8]) -> WholeRead
+pub fn int_at(raw: &[u8]) -> Option<Int>
     ensures { IntReads raw.now result }
 {
     if is_plain(raw) {
         return numerals::int_of(raw);
     }
-    let Some(s) = walked(raw) else {
-        return WholeRead::Bad;
-    };
-    numerals::int_end(s)
+    numerals::int_end(walked(raw)?)
 }
 
 /// A positive number, as the value reads.
-pub fn number_at(raw: &[u8]) -> NumberRead
+pub fn number_at(raw: &[u8]) -> Option<Positive>
     ensures { NumberReads raw.now result }
 {
     if is_plain(raw) {
         return numerals::number_of(raw);
     }
-    let Some(s) = walked(raw) else {
-        return NumberRead {
-            ok: false,
-            millionths: 0,
-            decimals: 0,
-        };
-    };
-    numerals::number_end(s)
+    numerals::number_end(walked(raw)?)
 }

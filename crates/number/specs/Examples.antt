@@ -1,5 +1,5 @@
 -- Worked examples: which bytes each class has, and what the definitions say at the ends of their ranges and just beyond. They hold by computation.
-use Rattle.std.specs.Prelude.{◌≡◌, refl, Bool, true, false, List, [], ◌∷◌, ℕ, zero, suc, ◌+◌}
+use Rattle.std.specs.Prelude.{◌≡◌, refl, Bool, true, false, List, [], ◌∷◌, ℕ, zero, suc, ◌+◌, Some, None}
 use Prim.Native.String.{String}
 use Rattle.number.specs.Bytes.{Bytes, text, and, or, blank, digit, hex, non_empty, all, trim, drop_front, drop_back, keep_before, value_from, before, behind, pointed}
 use Rattle.number.specs.Whole.{no_int, int, sized, signed, int_of, capped, paper, whole_read}
@@ -8,7 +8,6 @@ use Rattle.number.specs.Guid.{may, filled, guid_of}
 use Rattle.number.specs.Version.{one_to_three, version_of}
 use Rattle.number.specs.Digits.{digits_of, print_int}
 use Rattle.number.specs.Bench.{Case, whole, positive}
-use Rattle.number.specs.declared.whole.WholeRead.{WholeRead}
 
 -- the bytes of a class: n of them are tried, from b on
 abbrev keep : Bool → ℕ → Bytes → Bytes
@@ -157,11 +156,11 @@ caps = (refl, refl, refl, refl, refl)
 
 -- the answers, case by case
 pub answers :
-    (paper WholeRead.Bad ≡ no_int)
-    × (paper (WholeRead.Is true 7) ≡ int true 7)
-    × (whole_read (int false 65537) ≡ WholeRead.Is false 65536)
-    × (number_read no_number 5 ≡ record { ok = false; millionths = 0; decimals = 0 })
-    × (number_read (number 5) 6 ≡ record { ok = true; millionths = 5; decimals = 6 })
+    (paper None ≡ no_int)
+    × (paper (Some (record { negative = true; size = 7 })) ≡ int true 7)
+    × (whole_read (int false 65537) ≡ Some (record { negative = false; size = 65536 }))
+    × (number_read no_number 5 ≡ None)
+    × (number_read (number 5) 6 ≡ Some (record { millionths = 5; decimals = 6 }))
 unfolding paper whole_read number_read
 answers = (refl, refl, refl, refl, refl)
 

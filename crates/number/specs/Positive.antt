@@ -1,8 +1,8 @@
 -- Positive number: what a byte string is worth as a decimal above zero.
-use Rattle.std.specs.Prelude.{ℕ, ◌+◌, ◌-◌, ◌*◌, ◌^◌, ◌≤◌, min, ◌≡◌, Bool, true, false, [], ◌∷◌, ◌++◌, eqb, leb, ltb, length, take, drop, replicate}
+use Rattle.std.specs.Prelude.{ℕ, ◌+◌, ◌-◌, ◌*◌, ◌^◌, ◌≤◌, min, ◌≡◌, Bool, true, false, [], ◌∷◌, ◌++◌, eqb, leb, ltb, length, take, drop, replicate, Option, Some, None}
 use Prim.Native.Char.{code}
 use Rattle.number.specs.Bytes.{Bytes, pick, and, or, digit, zero_digit, non_empty, all, trim, drop_front, drop_back, value, before, behind}
-use Rattle.number.specs.declared.positive.NumberRead.{NumberRead}
+use Rattle.number.specs.declared.Positive.{Positive}
 
 -- "at most 7 digits before the point", "at most 6 behind it"
 abbrev pub BEFORE : ℕ
@@ -110,6 +110,6 @@ unfoldable pub decimals_of : Bytes → ℕ
 decimals_of v = decimals_in (unsigned (trim v))
 
 -- the answer that tells both
-unfoldable pub number_read : Number → ℕ → NumberRead
-number_read no_number d = record { ok = false; millionths = 0; decimals = 0 }
-number_read (number n) d = record { ok = true; millionths = n; decimals = d }
+unfoldable pub number_read : Number → ℕ → Option Positive
+number_read no_number d = None
+number_read (number n) d = Some (record { millionths = n; decimals = d })

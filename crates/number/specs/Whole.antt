@@ -1,9 +1,8 @@
 -- Int: what a byte string is worth as a whole number.
-use Rattle.std.specs.Prelude.{ℕ, min, Bool, true, false, [], ◌∷◌, eqb, ltb}
+use Rattle.std.specs.Prelude.{ℕ, min, Bool, true, false, [], ◌∷◌, eqb, ltb, Option, Some, None}
 use Prim.Native.Char.{code}
 use Rattle.number.specs.Bytes.{Bytes, pick, and, digit, non_empty, all, trim, value}
-use Rattle.number.specs.declared.whole.WholeRead.{WholeRead}
-use Rattle.number.specs.declared.whole.WholeRead.TheVariants.{Bad, Is}
+use Rattle.number.specs.declared.Int.{Int}
 
 -- no Int; or an Int, with whether it is below zero, and its size
 pub data Whole : Type 0 where
@@ -36,11 +35,11 @@ capped no_int = no_int
 capped (int below n) = int below (min CAP n)
 
 -- what each case of an answer says
-unfoldable pub paper : WholeRead → Whole
-paper Bad = no_int
-paper (Is below n) = int below n
+unfoldable pub paper : Option Int → Whole
+paper None = no_int
+paper (Some i) = int i.negative i.size
 
--- the answer that says it: `WholeRead` for an Int, case by case
-unfoldable pub whole_read : Whole → WholeRead
-whole_read no_int = Bad
-whole_read (int below n) = Is below (min CAP n)
+-- the answer that says it, case by case
+unfoldable pub whole_read : Whole → Option Int
+whole_read no_int = None
+whole_read (int below n) = Some (record { negative = below; size = min CAP n })

@@ -2,9 +2,9 @@
 use mathlib.Core.Path.{◌≡◌, refl}
 use mathlib.Core.Bool.{Bool, false}
 use Prim.Native.Nat.{ℕ}
-use Rattle.number.specs.Positive.{no_number, number_read}
+use Rattle.number.specs.Positive.{number_read}
 use Rattle.numerals.specs.Scan.{inside, broken, int_body_end, number_body_end, body_decimals, body_end}
-use Rattle.number.specs.declared.whole.WholeRead.{WholeRead}
+use Rattle.std.specs.Prelude.{None}
 use Rattle.numerals.specs.declared.ends.Ends.{Ends}
 use Rattle.numerals.specs.declared.scan.Body.{Body}
 use Rattle.numerals.specs.declared.scan.Digits.{Digits}
@@ -23,7 +23,7 @@ not_broken Ends.Inside h = refl
 not_broken Ends.Behind h = refl
 not_broken Ends.Broken h = absurd (h refl)
 
-pub no_int_lem : (s : Body) → ((minus : Bool) (d : Digits) → s ≡ Body.Whole minus d → ⊥) → WholeRead.Bad ≡ int_body_end s
+pub no_int_lem : (s : Body) → ((minus : Bool) (d : Digits) → s ≡ Body.Whole minus d → ⊥) → None ≡ int_body_end s
 unfolding int_body_end
 no_int_lem Body.Start h = refl
 no_int_lem (Body.Signed minus) h = refl
@@ -35,8 +35,8 @@ no_int_lem (Body.Turned minus d) h = refl
 no_int_lem (Body.Power minus e d) h = refl
 no_int_lem Body.Dead h = refl
 
-pub no_end : (s : Body) → ((minus : Bool) (d : Digits) → s ≡ Body.Whole minus d → ⊥) → ((d : Digits) → s ≡ Body.Part d → ⊥) → ((minus : Bool) (e : ℕ) (d : Digits) → s ≡ Body.Power minus e d → ⊥) → number_read no_number 0 ≡ body_end s
-unfolding body_end number_body_end body_decimals
+pub no_end : (s : Body) → ((minus : Bool) (d : Digits) → s ≡ Body.Whole minus d → ⊥) → ((d : Digits) → s ≡ Body.Part d → ⊥) → ((minus : Bool) (e : ℕ) (d : Digits) → s ≡ Body.Power minus e d → ⊥) → None ≡ body_end s
+unfolding body_end number_body_end body_decimals number_read
 no_end Body.Start w p e = refl
 no_end (Body.Signed minus) w p e = refl
 no_end (Body.Whole minus d) w p e = absurd (w minus d refl)

@@ -5,23 +5,24 @@ use mathlib.Core.List.{[], ◌∷◌, ◌++◌}
 use Prim.Native.Nat.{ℕ, zero, suc, ◌+◌, ◌-◌, ◌*◌, ◌/◌, ◌%◌, ◌^◌, ◌≤◌, ◌<◌, min}
 use native.Mathlib.Omega.{arith}
 use native.Mathlib.Numerals.{add-one}
-use native.Mathlib.Nat.{le-mul_of_pos_right}
-use lib.Dec.{ltb}
+use native.Mathlib.Nat.{mul-le-mul_right, pow-le-pow_right}
+use lib.Dec.{eqb, leb, ltb}
 use lib.ListN.{length, get_or, take}
 use lib.Seq.{take-suc, take_all}
-use borrow.Author.Tests.{lt-ltb, le-ltb, le-leb, lt-leb, ne_eqb, eq-eqb}
+use borrow.Author.Tests.{lt-ltb, le-ltb, le-leb, lt-leb, ne_eqb, eq-eqb, eqb-true, eqb-false, leb-true, leb-false}
 use Rattle.number.specs.Bytes.{Bytes, pick}
 use Rattle.number.specs.Whole.{CAP}
 use Rattle.number.specs.Positive.{Number, no_number, number, number_read}
-use Rattle.numerals.specs.Scan.{run, ends_step, inside, TOP, body_step, step, sized_as, limited, tenths, exactly, ended}
-use Rattle.number.specs.declared.whole.WholeRead.{WholeRead}
-use Rattle.number.specs.declared.positive.NumberRead.{NumberRead}
+use Rattle.numerals.specs.Scan.{run, ends_step, inside, TOP, body_step, step, sized_as, millionths_of, limited, tenths, exactly, ended}
+use mathlib.Core.Logic.{◌⊎◌, inl, inr}
+use Rattle.std.specs.Prelude.{Option, Some, None}
+use Rattle.number.specs.declared.Positive.{Positive}
+use Rattle.number.specs.declared.Int.{Int}
 use Rattle.numerals.specs.declared.ends.Ends.{Ends}
 use Rattle.numerals.specs.declared.scan.Digits.{Digits}
 use Rattle.numerals.specs.declared.scan.Body.{Body}
 use Rattle.numerals.specs.declared.scan.Scan.{Scan}
-use Rattle.number.proofs.Tests.{never, and_false}
-use Rattle.number.proofs.Powers.{ten_pos, shift}
+use Rattle.number.proofs.Tests.{cases, and_false}
 use Rattle.numerals.proofs.Theorems.{scanned_more}
 
 -- a scan that has passed the first i bytes of v, in a loop over v
@@ -52,72 +53,71 @@ unfolding step
 byte_outside s b e p i = rw (p, ap inside (sym p) ∙ i)
 
 -- a size up to the cap
-pub size_told : (minus : Bool) (d : Digits) (m : ℕ) → (d.n ≡ 0 → ⊥) → m ≡ min CAP (d.n * 10 ^ d.zeros) → WholeRead.Is minus m ≡ sized_as minus d
+pub size_told : (minus : Bool) (d : Digits) (m : ℕ) → (d.n ≡ 0 → ⊥) → m ≡ min CAP (d.n * 10 ^ d.zeros) → ◌≡◌ {A = Int} (record { negative = minus; size = m }) (sized_as minus d)
 unfolding sized_as
 size_told minus d m h e = rw (ne_eqb d.n 0 h, e)
 
 -- the limits of a number x that was cut at the top
 module _ (x : ℕ) {m : ℕ} (e : m ≡ min TOP x) where
-  pub limit_zero : m ≡ 0 → no_number ≡ limited x
+  pub limit_in : 0 < m → m < TOP → number m ≡ limited x
   unfolding limited
-  limit_zero z = let y : x ≡ 0 = omega arith in rw y
+  limit_in z h = let y : x ≡ m = omega arith in rw (y, lt-ltb 0 m z, lt-ltb m TOP h)
 
-  pub limit_in : (m ≡ 0 → ⊥) → m < TOP → number m ≡ limited x
+  pub limit_out : (0 < m × TOP ≤ m) ⊎ (m ≤ 0) → no_number ≡ limited x
   unfolding limited
-  limit_in z h = let y : x ≡ m = omega arith in rw (y, lt-ltb 0 m (omega arith), lt-ltb m TOP h)
+  limit_out (inl (z, h)) = rw (le-ltb x TOP (omega arith), and_false (ltb 0 x))
+  limit_out (inr z) = let y : x ≡ 0 = omega arith in rw y
 
-  pub limit_top : TOP ≤ m → no_number ≡ limited x
-  unfolding limited
-  limit_top h = rw (le-ltb x TOP (omega arith), and_false (ltb 0 x))
-
--- a product by a power of ten, factor by factor: m * 10 ^ left is the product
-pub record Shifting (n k m left : ℕ) : Type 0 where
-  pub some : 0 < m
-  pub same : m * 10 ^ left ≡ n * 10 ^ k
-
-pub shift_start : (n k : ℕ) → (n ≡ 0 → ⊥) → Shifting n k n k
-shift_start n k h = record { some = omega arith; same = refl }
-
-pub shift_more : (n k m left : ℕ) → Shifting n k m left → 0 < left → Shifting n k (m * 10) (left - 1)
-shift_more n k m zero p l = absurd (omega arith)
-shift_more n k m (suc left) p l =
-    let one : suc left - 1 ≡ left = omega arith in
-    let ten : m * 10 ≡ 10 * m = omega arith in
-    record {
-      some = omega (arith, p.some);
-      same = ap (λ (j : ℕ). m * 10 * 10 ^ j) one ∙ ap (λ (j : ℕ). j * 10 ^ left) ten ∙ sym (shift m left) ∙ p.same;
-    }
-
--- once at the top, the product is at the top or above
-pub shift_top : (n k m left : ℕ) → Shifting n k m left → TOP ≤ m → TOP ≡ min TOP (n * 10 ^ k)
-shift_top n k m left p l =
-    let more : m ≤ m * 10 ^ left = le-mul_of_pos_right m (ten_pos left) in
-    omega (arith, p.same)
-
-pub shift_end : (n k m left : ℕ) → Shifting n k m left → left ≤ 0 → m ≡ n * 10 ^ k
-shift_end n k m zero p l = let e : m * 10 ^ 0 ≡ n * 10 ^ k = p.same in omega arith
-shift_end n k m (suc left) p l = absurd (omega arith)
+-- a product by a power of ten, where both are told up to the largest number: 10^20 is above it
+pub shift_capped : (n k p q : ℕ) → p ≡ min (10 ^ min k 20) (2 ^ 64 - 1) → q ≡ min (n * p) (2 ^ 64 - 1) → min q TOP ≡ min TOP (n * 10 ^ k)
+shift_capped n k p q e f =
+    cases (leb k 19)
+    (λ t.
+    let l = leb-true k 19 t in
+    let x : min k 20 ≡ k = omega arith in
+    let y : 10 ^ k ≤ 10 ^ 19 = let d : k ≤ 19 = omega arith in pow-le-pow_right (omega arith) d in
+    let z : min (10 ^ k) (2 ^ 64 - 1) ≡ 10 ^ k = omega arith in
+    let w : p ≡ 10 ^ k = e ∙ ap (λ (j : ℕ). min (10 ^ j) (2 ^ 64 - 1)) x ∙ z in
+    let v : n * p ≡ n * 10 ^ k = ap (λ (j : ℕ). n * j) w in
+    omega arith)
+    (λ t.
+    let l = leb-false k 19 t in
+    let x : min k 20 ≡ 20 = omega arith in
+    let w : p ≡ 2 ^ 64 - 1 = e ∙ ap (λ (j : ℕ). min (10 ^ j) (2 ^ 64 - 1)) x in
+    let y : 10 ^ 20 ≤ 10 ^ k = let d : 20 ≤ k = omega arith in pow-le-pow_right (omega arith) d in
+    many w y)
+  where
+    many : p ≡ 2 ^ 64 - 1 → 10 ^ 20 ≤ 10 ^ k → min q TOP ≡ min TOP (n * 10 ^ k)
+    many w y =
+        cases (eqb n 0)
+        (λ z.
+        let a : n * p ≡ 0 * p = ap (λ (j : ℕ). j * p) (eqb-true n 0 z) in
+        let b : n * 10 ^ k ≡ 0 * 10 ^ k = ap (λ (j : ℕ). j * 10 ^ k) (eqb-true n 0 z) in
+        omega arith)
+        (λ z.
+        let s : 1 ≤ n = let r = eqb-false n 0 z in omega arith in
+        let a : 1 * p ≤ n * p = mul-le-mul_right p s in
+        let b : 1 * 10 ^ k ≤ n * 10 ^ k = mul-le-mul_right (10 ^ k) s in
+        omega arith)
 
 -- a quotient by a power of ten, factor by factor: what is left of it is the same
 pub record Lowering (n k m left : ℕ) : Type 0 where
   pub some : 0 < m
   pub same : tenths left m ≡ tenths k n
 
-pub low_start : (n k : ℕ) → (n ≡ 0 → ⊥) → Lowering n k n k
-low_start n k h = record { some = omega arith; same = refl }
+pub low_start : (n k left : ℕ) → (n ≡ 0 → ⊥) → left ≡ k → Lowering n k n left
+low_start n k left h e = record { some = omega arith; same = ap (λ (j : ℕ). tenths j n) e }
 
 pub low_zero : (k : ℕ) → no_number ≡ tenths k 0
 unfolding tenths limited
 low_zero zero = refl
 low_zero (suc k) = low_zero k
 
-pub low_more : (n k m left : ℕ) → Lowering n k m left → 0 < left → m % 10 ≡ 0 → Lowering n k (m / 10) (left - 1)
+pub low_more : (n k m left next : ℕ) → Lowering n k m left → left ≡ suc next → m % 10 ≡ 0 → Lowering n k (m / 10) next
 unfolding tenths
-low_more n k m zero p l e = absurd (omega arith)
-low_more n k m (suc left) p l e =
-    let one : suc left - 1 ≡ left = omega arith in
+low_more n k m left next p l e =
     let s = p.some in
-    record { some = omega arith; same = ap (λ (j : ℕ). tenths j (m / 10)) one ∙ ap (λ (t : Bool). pick t (tenths left (m / 10)) no_number) (sym (eq-eqb (m % 10) 0 e)) ∙ p.same }
+    record { some = omega arith; same = ap (λ (t : Bool). pick t (tenths next (m / 10)) no_number) (sym (eq-eqb (m % 10) 0 e)) ∙ ap (λ (j : ℕ). tenths j m) (sym l) ∙ p.same }
 
 pub low_over : (n k m left : ℕ) → Lowering n k m left → 0 < left → (m % 10 ≡ 0 → ⊥) → no_number ≡ tenths k n
 unfolding tenths
@@ -142,13 +142,13 @@ pub scaled_down : (n up down : ℕ) → n < TOP → up < down → tenths (down -
 unfolding ended exactly
 scaled_down n up down h l = rw (lt-ltb n TOP h, lt-leb down up l)
 
--- a number that is read with its digits behind the point
-pub told_none : (x : Number) (r : NumberRead) (d : ℕ) → r ≡ number_read x 0 → r.ok ≡ false → r ≡ number_read x d
-unfolding number_read
-told_none no_number r d e h = e
-told_none (number n) r d e h = never (ap (λ (q : NumberRead). q.ok) e) h
+-- an answer with its digits behind the point, from the millionths
+pub told_none : {r : Option ℕ} {q : Option Positive} (x : Number) (d : ℕ) → r ≡ millionths_of x → r ≡ None → q ≡ None → q ≡ number_read x d
+unfolding number_read millionths_of
+told_none no_number d e f h = h
+told_none (number n) d e f h = cc
 
-pub told_some : (x : Number) (r : NumberRead) (d c : ℕ) → r ≡ number_read x 0 → r.ok ≡ true → c ≡ d → ◌≡◌ {A = NumberRead} (record { ok = true; millionths = r.millionths; decimals = c }) (number_read x d)
-unfolding number_read
-told_some no_number r d c e h p = never h (ap (λ (q : NumberRead). q.ok) e)
-told_some (number n) r d c e h p = rw (p, ap (λ (q : NumberRead). q.millionths) e)
+pub told_some : {r : Option ℕ} {m : ℕ} (x : Number) (c d : ℕ) → r ≡ millionths_of x → r ≡ Some m → c ≡ d → Some (record { millionths = m; decimals = c }) ≡ number_read x d
+unfolding number_read millionths_of
+told_some no_number c d e f h = cc
+told_some {m = m} (number n) c d e f h = let g : m ≡ n = cc in rw (g, h)

@@ -13,7 +13,8 @@ use Rattle.number.specs.Bytes.{Bytes, pick, and, digit, zero_digit, figure, non_
 use Rattle.number.specs.Positive.{mark}
 use Rattle.number.specs.Whole.{Whole, no_int, int, sized, signed, int_of, CAP, capped, paper}
 use Rattle.numerals.specs.Scan.{TOP, TENTH, run, joined, zeros_more, with_digit, no_digits, part_digit, part_step, sign_step, whole_step, first_step, power_digit, mark_step, body_step, sized_as, int_body_end, int_end, IntExact}
-use Rattle.number.specs.declared.whole.WholeRead.{WholeRead}
+use Rattle.std.specs.Prelude.{Option, Some, None}
+use Rattle.number.specs.declared.Int.{Int}
 use Rattle.numerals.specs.declared.scan.Digits.{Digits}
 use Rattle.numerals.specs.declared.scan.Body.{Body}
 use Rattle.numerals.specs.declared.scan.Scan.{Scan}
@@ -89,7 +90,7 @@ size_more {q} {n} {z} b d (beyond h k) =
     (cases (and (ltb n TOP) (zero_digit b)) (λ t. rw t (beyond h (omega arith))) (λ t. rw t (beyond (omega arith) (omega arith))))
 
 -- minus zero is zero
-end_digits : (minus : Bool) (q : ℕ) (d : Digits) → Size q d.n d.zeros → paper (sized_as minus d) ≡ capped (int (and minus (ltb 0 q)) q)
+end_digits : (minus : Bool) (q : ℕ) (d : Digits) → Size q d.n d.zeros → paper (Some (sized_as minus d)) ≡ capped (int (and minus (ltb 0 q)) q)
 unfolding paper sized_as capped
 end_digits minus q d (told h e f) =
     let c : min CAP (d.n * 10 ^ d.zeros) ≡ min CAP q = rw e (omega arith) in
@@ -147,7 +148,7 @@ blank_signed (b ∷ t) h =
     cases (eqb b (code "-")) (λ e. rw e (blank_sized true t (rest_blank b t (minus_solid b e) h)))
     (λ n. cases (eqb b (code "+")) (λ e. rw (n, e) (blank_sized false t (rest_blank b t (plus_solid b e) h))) (λ m. rw (n, m) (blank_sized false (b ∷ t) h)))
 
-paper_pick : (t : Bool) (r : WholeRead) → paper (pick t r WholeRead.Bad) ≡ pick t (paper r) no_int
+paper_pick : (t : Bool) (r : Option Int) → paper (pick t r None) ≡ pick t (paper r) no_int
 unfolding paper
 paper_pick true r = refl
 paper_pick false r = refl
@@ -160,7 +161,7 @@ pub int_exact : IntExact
 unfolding int_end int_of
 int_exact w =
     ap (λ (s : Scan). paper (int_end s)) (apart w)
-    ∙ ap paper (trimmed body_step WholeRead.Bad int_body_end Body.Start w)
+    ∙ ap paper (trimmed body_step None int_body_end Body.Start w)
     ∙ paper_pick (all solid (trim w)) (int_body_end (run body_step Body.Start (trim w)))
     ∙ ap (λ (x : Whole). pick (all solid (trim w)) x no_int) (from_start (trim w))
     ∙ clear (trim w)

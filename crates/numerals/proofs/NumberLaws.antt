@@ -13,7 +13,8 @@ use borrow.Author.Tests.{eqb-true, ne_eqb}
 use Rattle.number.specs.Bytes.{Bytes, pick, and, blank, digit, figure, non_empty, all, trim, drop_front, drop_back, keep_before, value_from, value, before, behind}
 use Rattle.number.specs.Positive.{Number, no_number, number, written, decimal, unsigned, parted, mark, mantissa, power, powered, power_digits, below, power_written, right, left, out, decimal_of, number_of, decimals_in, decimals_of, number_read, NumberRange}
 use Rattle.numerals.specs.Scan.{TENTH, FAR, SLICE, run, zeros_more, with_digit, no_digits, part_digit, part_step, sign_step, whole_step, first_step, power_digit, mark_step, body_step, exactly, whole_end, number_body_end, body_decimals, body_end, number_end, NumberExact}
-use Rattle.number.specs.declared.positive.NumberRead.{NumberRead}
+use Rattle.std.specs.Prelude.{Option, None}
+use Rattle.number.specs.declared.Positive.{Positive}
 use Rattle.numerals.specs.declared.scan.Digits.{Digits}
 use Rattle.numerals.specs.declared.scan.Body.{Body}
 use Rattle.number.proofs.Tests.{cases, never, and_left, and_right, and_false, digit_low}
@@ -440,7 +441,7 @@ start_read t l = go (ended Body.Start t) refl (from_start t l)
     go no_number e f = ap (λ (y : Number). number_read y (decimals_in (unsigned t))) f
     go (number m) e f = ap (number_read (number m)) (start_tells t m l e) ∙ ap (λ (y : Number). number_read y (decimals_in (unsigned t))) f
 
-clear : (t : Bytes) → pick (all solid t) (number_read (decimal_of (unsigned t)) (decimals_in (unsigned t))) (number_read no_number 0) ≡ number_read (decimal_of (unsigned t)) (decimals_in (unsigned t))
+clear : (t : Bytes) → pick (all solid t) (number_read (decimal_of (unsigned t)) (decimals_in (unsigned t))) None ≡ number_read (decimal_of (unsigned t)) (decimals_in (unsigned t))
 unfolding number_read
 clear t = cases (all solid t) (λ h. rw h) (λ h. rw h (ap (λ (y : Number). number_read y (decimals_in (unsigned t))) (sym (blank_unsigned t h))))
 
@@ -468,8 +469,8 @@ pub number_exact : NumberExact
 unfolding number_end number_of decimals_of
 number_exact w l =
     ap number_end (apart w)
-    ∙ trimmed body_step (number_read no_number 0) body_end Body.Start w
-    ∙ ap (λ (x : NumberRead). pick (all solid (trim w)) x (number_read no_number 0)) (start_read (trim w) (let h = trim_short w in omega arith))
+    ∙ trimmed body_step None body_end Body.Start w
+    ∙ ap (λ (x : Option Positive). pick (all solid (trim w)) x None) (start_read (trim w) (let h = trim_short w in omega arith))
     ∙ clear (trim w)
 
 -- m millionths are f.g times ten to the power that x writes

@@ -1,7 +1,7 @@
 -- Runs of digits taken at once, for the proofs of the code.
-use Rattle.std.specs.Prelude.{◌≡◌, true, false, ℕ, ◌+◌, ◌-◌, ◌*◌, ◌≤◌, ◌<◌, length, take}
+use Rattle.std.specs.Prelude.{◌≡◌, true, false, ℕ, ◌+◌, ◌*◌, ◌≤◌, ◌<◌, length, take}
 use Rattle.number.specs.Bytes.{Bytes, digit, figure}
-use Rattle.numerals.specs.Scan.{TENTH, SLICE, run, start, step}
+use Rattle.numerals.specs.Scan.{TENTH, SLICE, run, step}
 use Rattle.numerals.specs.declared.ends.Ends.{Ends}
 use Rattle.numerals.specs.declared.scan.Body.{Body}
 use Rattle.numerals.specs.declared.scan.Scan.{Scan}
@@ -19,8 +19,7 @@ part_of n k = record { ends = Ends.Inside; body = Body.Part (record { n = n; zer
 abbrev pub Steps : (ℕ → ℕ → Scan) → Type 0
 Steps f = (n k b : ℕ) → n < TENTH → k < SLICE → digit b ≡ true → step (f n k) b ≡ f (10 * n + figure b) (k + 1)
 
--- the digits from `at` up to the end of the run take each such state to a later one
-pub record Runs (v : Bytes) (at n : ℕ) (r : Run) : Type 0 where
-  pub from : at ≤ r.end
-  pub upto : r.end ≤ length v
-  pub says : (f : ℕ → ℕ → Scan) → Steps f → run step start (take at v) ≡ f n 0 → run step start (take r.end v) ≡ f r.n (r.end - at)
+-- the digits of the run, with which v begins, take each such state to a later one
+pub record Runs (v : Bytes) (n : ℕ) (r : Run) : Type 0 where
+  pub upto : r.len ≤ length v
+  pub says : (f : ℕ → ℕ → Scan) → Steps f → run step (f n 0) (take r.len v) ≡ f r.n r.len

@@ -12,13 +12,13 @@
 --                    have, since the digits before and behind the point and the exponent are counted
 -- Whoever keeps "s ≡ run step start w" in a loop over the bytes w has, by the first law, the same of one byte more, and, by the last, the
 -- answer of the definition at the end. The steps are defined on every state, so no call asks anything of its caller.
-use Rattle.std.specs.Prelude.{ℕ, zero, suc, ◌+◌, ◌-◌, ◌*◌, ◌/◌, ◌%◌, ◌^◌, ◌<◌, min, ◌≡◌, Bool, true, false, [], ◌∷◌, ◌++◌, eqb, leb, ltb, length}
+use Rattle.std.specs.Prelude.{ℕ, zero, suc, ◌+◌, ◌-◌, ◌*◌, ◌/◌, ◌%◌, ◌^◌, ◌<◌, min, ◌≡◌, Bool, true, false, [], ◌∷◌, ◌++◌, eqb, leb, ltb, length, Option, Some, None}
 use Prim.Native.Char.{code}
 use Rattle.number.specs.Bytes.{Bytes, pick, and, blank, digit, zero_digit, figure}
 use Rattle.number.specs.Whole.{CAP, int_of, capped, paper}
 use Rattle.number.specs.Positive.{BEFORE, BEHIND, Number, no_number, number, mark, number_of, decimals_of, number_read}
-use Rattle.number.specs.declared.whole.WholeRead.{WholeRead}
-use Rattle.number.specs.declared.positive.NumberRead.{NumberRead}
+use Rattle.number.specs.declared.Int.{Int}
+use Rattle.number.specs.declared.Positive.{Positive}
 use Rattle.numerals.specs.declared.ends.Ends.{Ends}
 use Rattle.numerals.specs.declared.scan.Digits.{Digits}
 use Rattle.numerals.specs.declared.scan.Body.{Body}
@@ -147,27 +147,32 @@ step s b =
     }
 
 -- As an Int: minus zero is zero, and an exponent is none.
-unfoldable pub sized_as : Bool → Digits → WholeRead
-sized_as minus d = pick (eqb d.n 0) (WholeRead.Is false 0) (WholeRead.Is minus (min CAP (d.n * 10 ^ d.zeros)))
+unfoldable pub sized_as : Bool → Digits → Int
+sized_as minus d = pick (eqb d.n 0) (record { negative = false; size = 0 }) (record { negative = minus; size = min CAP (d.n * 10 ^ d.zeros) })
 
-unfoldable pub int_body_end : Body → WholeRead
-int_body_end Body.Start = WholeRead.Bad
-int_body_end (Body.Signed minus) = WholeRead.Bad
-int_body_end (Body.Whole minus d) = sized_as minus d
-int_body_end Body.Point = WholeRead.Bad
-int_body_end (Body.Part d) = WholeRead.Bad
-int_body_end (Body.Mark d) = WholeRead.Bad
-int_body_end (Body.Turned minus d) = WholeRead.Bad
-int_body_end (Body.Power minus e d) = WholeRead.Bad
-int_body_end Body.Dead = WholeRead.Bad
+unfoldable pub int_body_end : Body → Option Int
+int_body_end Body.Start = None
+int_body_end (Body.Signed minus) = None
+int_body_end (Body.Whole minus d) = Some (sized_as minus d)
+int_body_end Body.Point = None
+int_body_end (Body.Part d) = None
+int_body_end (Body.Mark d) = None
+int_body_end (Body.Turned minus d) = None
+int_body_end (Body.Power minus e d) = None
+int_body_end Body.Dead = None
 
-unfoldable pub int_end : Scan → WholeRead
-int_end s = pick (broken s.ends) WholeRead.Bad (int_body_end s.body)
+unfoldable pub int_end : Scan → Option Int
+int_end s = pick (broken s.ends) None (int_body_end s.body)
 
 abbrev pub IntExact : Type 0
 IntExact = (w : Bytes) → paper (int_end (run step start w)) ≡ capped (int_of w)
 
--- As a positive number: so many millionths, where they are above zero and have no more digits than may stand before and behind the point.
+-- As a positive number: the millionths, where it is one.
+unfoldable pub millionths_of : Number → Option ℕ
+millionths_of no_number = None
+millionths_of (number n) = Some n
+
+-- So many, where they are above zero and have no more digits than may stand before and behind the point.
 unfoldable pub limited : ℕ → Number
 limited m = pick (and (ltb 0 m) (ltb m TOP)) (number m) no_number
 
@@ -216,11 +221,11 @@ body_decimals (Body.Turned minus d) = 0
 body_decimals (Body.Power minus e d) = 0
 body_decimals Body.Dead = 0
 
-unfoldable pub body_end : Body → NumberRead
+unfoldable pub body_end : Body → Option Positive
 body_end b = number_read (number_body_end b) (body_decimals b)
 
-unfoldable pub number_end : Scan → NumberRead
-number_end s = pick (broken s.ends) (number_read no_number 0) (body_end s.body)
+unfoldable pub number_end : Scan → Option Positive
+number_end s = pick (broken s.ends) None (body_end s.body)
 
 -- a slice has fewer bytes: so many are counted one by one
 abbrev pub SLICE : ℕ

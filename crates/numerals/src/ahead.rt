@@ -1,85 +1,71 @@
 // The scan of bytes that stand in a row: runs of digits first, which come often, and byte by byte what is left.
-ghost use Rattle.std.specs.Prelude.{◌≡◌, true, ◌≤◌, ◌<◌, length, get_or, take};
-ghost use Rattle.number.specs.Bytes.{digit};
+ghost use Rattle.std.specs.Prelude.{◌≡◌};
 ghost use Rattle.numerals.specs.Scan.{run, start, step};
-ghost use Rattle.numerals.specs.Ahead.{Runs, part_of};
+ghost use Rattle.numerals.specs.Ahead.{Runs, whole_of, part_of};
 
 use crate::byte::{figure_of, is_digit};
 use crate::ends::Ends;
 use crate::scan::{Body, Digits, Scan, TENTH};
 
-// A run of digits: what they write behind the digits before it, and the place behind it.
+// A run of digits: what they write behind the digits before it, and how many they are.
 #[derive(Clone, Copy)]
 struct Run {
     n: u64,
-    end: usize,
+    len: usize,
 }
 
-// The digits at `at`, behind digits that write n, as long as no zero has to be left out.
-fn digit_run(v: &[u8], at: usize, n: u64) -> Run
-    requires { at ≤ length v.now }
-    ensures { Runs v.now at n result }
+// The digits that v begins with, behind digits that write n, as long as no zero has to be left out.
+fn digit_run(v: &[u8], n: u64) -> Run
+    ensures { Runs v.now n result }
 {
-    let mut i = at;
     let mut m = n;
-    while i < v.len() {
-        let b = v[i];
-        if TENTH <= m {
-            return Run { n: m, end: i };
+    let mut len = 0;
+    for &b in v {
+        if TENTH <= m || !is_digit(b) {
+            break;
         }
-        if is_digit(b) {
-            m = 10 * m + figure_of(b) as u64;
-            i += 1;
-        } else {
-            return Run { n: m, end: i };
-        }
+        m = 10 * m + figure_of(b) as u64;
+        len += 1;
     }
-    Run { n: m, end: i }
+    Run { n: m, len }
 }
 
-// The scan goes on at `at`, byte by byte.
-fn stepped(v: &[u8], at: usize, from: Scan) -> Scan
-    requires { (at ≤ length v.now) × (from ≡ run step start (take at v.now)) }
-    ensures { result ≡ run step start v.now }
+// The scan goes on, byte by byte.
+fn stepped(from: Scan, v: &[u8]) -> Scan
+    ensures { result ≡ run step from v.now }
 {
     let mut s = from;
-    let mut i = at;
-    while i < v.len() {
-        s = s.step(v[i]);
-        i += 1;
+    for &b in v {
+        s = s.step(b);
     }
     s
 }
 
-// The scan goes on behind a point.
-fn part_ahead(v: &[u8], at: usize, n: u64) -> Scan
-    requires { (at ≤ length v.now) × (run step start (take at v.now) ≡ part_of n 0) }
-    ensures { result ≡ run step start v.now }
+// The scan goes on behind a point, before which digits write n.
+fn part_ahead(n: u64, v: &[u8]) -> Scan
+    ensures { result ≡ run step (part_of n 0) v.now }
 {
-    let r = digit_run(v, at, n);
+    let r = digit_run(v, n);
     let d = Digits {
         n: r.n,
         zeros: 0,
-        places: (r.end - at) as u64,
+        places: r.len as u64,
     };
     let s = Scan {
         ends: Ends::Inside,
         body: Body::Part(d),
     };
-    stepped(v, r.end, s)
+    stepped(s, &v[r.len..])
 }
 
-// The scan of bytes that begin with a digit.
-fn whole_ahead(v: &[u8]) -> Scan
-    requires { (0 < length v.now) × (digit (get_or v.now 0 0) ≡ true) }
-    ensures { result ≡ run step start v.now }
+// The scan goes on behind digits that write n.
+fn whole_ahead(n: u64, v: &[u8]) -> Scan
+    ensures { result ≡ run step (whole_of n 0) v.now }
 {
-    let r = digit_run(v, 1, figure_of(v[0]) as u64);
-    let end = r.end;
-    if end < v.len() {
-        if v[end] == b'.' {
-            return part_ahead(v, end + 1, r.n);
-        }
+    let r = digit_run(v, n);
+    let rest = &v[r.len..];
+    if let [b'.', part @ ..] = rest {
+        return part_ahead(r.n, part);
     }
     let d = Digits {
         n: r.n,
@@ -90,17 +76,15 @@ fn whole_ahead(v: &[u8]) -> Scan
         ends: Ends::Inside,
         body: Body::Whole(false, d),
     };
-    stepped(v, end, s)
+    stepped(s, rest)
 }
 
 /// The scan after the bytes.
 pub fn scanned(v: &[u8]) -> Scan
     ensures { result ≡ run step start v.now }
 {
-    if 0 < v.len() {
-        if is_digit(v[0]) {
-            return whole_ahead(v);
-        }
+    match v {
+        [b, rest @ ..] if is_digit(*b) => whole_ahead(figure_of(*b) as u64, rest),
+        _ => stepped(Scan::start(), v),
     }
-    stepped(v, 0, Scan::start())
 }

@@ -1,147 +1,112 @@
 // Positive number: above zero, and short enough when written out; told in millionths.
 ghost use Rattle.std.specs.Prelude.{◌≡◌, ◌*◌, ◌^◌, min};
-ghost use Rattle.number.specs.Positive.{BEHIND, no_number, number_of, decimals_of, number_read};
-ghost use Rattle.numerals.specs.declared.scan.Body.{Body};
-ghost use Rattle.numerals.specs.Scan.{limited, tenths, ended, power_end, whole_end, body_end, number_end};
+ghost use Rattle.number.specs.Positive.{BEHIND, number_of, decimals_of, number_read};
+ghost use Rattle.numerals.specs.Scan.{millionths_of, limited, tenths, ended, power_end, whole_end, body_end, number_end};
 
 use crate::ahead::scanned;
 use crate::scan::{Body, Digits, Scan};
 use crate::tens::{TOP, far, shifted};
-use number::NumberRead;
+use number::Positive;
 
 /// Millionths: places behind the point that count.
 const PLACES: u64 = 6;
 
-fn bad_number() -> NumberRead
-    ensures { result ≡ number_read no_number 0 }
-{
-    NumberRead {
-        ok: false,
-        millionths: 0,
-        decimals: 0,
-    }
-}
-
 // n * 10^k millionths, or none: the limits of a positive number.
-fn limit(n: u64, k: u64) -> NumberRead
-    ensures { result ≡ number_read (limited (n * 10 ^ k)) 0 }
+fn limit(n: u64, k: u64) -> Option<u64>
+    ensures { result ≡ millionths_of (limited (n * 10 ^ k)) }
 {
     let m = shifted(n, k);
-    if m == 0 {
-        return bad_number();
-    }
-    if m < TOP {
-        return NumberRead {
-            ok: true,
-            millionths: m,
-            decimals: 0,
-        };
-    }
-    bad_number()
+    if 0 < m && m < TOP { Some(m) } else { None }
 }
 
 // n / 10^k millionths, where nothing is left over, or none.
-fn lowered(n: u64, k: u64) -> NumberRead
-    ensures { result ≡ number_read (tenths k n) 0 }
+fn lowered(n: u64, k: u64) -> Option<u64>
+    ensures { result ≡ millionths_of (tenths k n) }
 {
     if n == 0 {
-        return bad_number();
+        return None;
     }
     let mut m = n;
-    let mut left = k;
-    while 0 < left {
+    for _ in 0..k {
         if m % 10 != 0 {
-            return bad_number();
+            return None;
         }
         m /= 10;
-        left -= 1;
     }
     limit(m, 0)
 }
 
 // n * 10^up / 10^down millionths.
-fn scaled(n: u64, up: u64, down: u64) -> NumberRead
-    ensures { result ≡ number_read (ended n up down) 0 }
+fn scaled(n: u64, up: u64, down: u64) -> Option<u64>
+    ensures { result ≡ millionths_of (ended n up down) }
 {
     if TOP <= n {
-        return bad_number();
+        None
+    } else if down <= up {
+        limit(n, up - down)
+    } else {
+        lowered(n, down - up)
     }
-    if down <= up {
-        return limit(n, up - down);
-    }
-    lowered(n, down - up)
 }
 
-// Digits with an exponent, which is 0 where there is none.
-fn power_end(minus: bool, e: u64, d: Digits) -> NumberRead
-    ensures { result ≡ number_read (power_end minus e d) 0 }
+// The millionths of digits with an exponent, which is 0 where there is none.
+fn power_end(minus: bool, e: u64, d: Digits) -> Option<u64>
+    ensures { result ≡ millionths_of (power_end minus e d) }
 {
     let up = far(d.zeros, PLACES);
     if minus {
-        return scaled(d.n, up, far(d.places, e));
+        scaled(d.n, up, far(d.places, e))
+    } else {
+        scaled(d.n, far(up, e), d.places)
     }
-    scaled(d.n, far(up, e), d.places)
 }
 
-fn whole_end(minus: bool, d: Digits) -> NumberRead
-    ensures { result ≡ number_read (whole_end minus d) 0 }
+// Behind a minus it is none.
+fn whole_end(minus: bool, d: Digits) -> Option<u64>
+    ensures { result ≡ millionths_of (whole_end minus d) }
 {
-    if minus {
-        return bad_number();
-    }
-    power_end(false, 0, d)
+    if minus { None } else { power_end(false, 0, d) }
 }
 
 /// A count of digits behind the point, up to 6.
 pub fn at_most_six(places: u64) -> u64
     ensures { result ≡ min BEHIND places }
 {
-    if PLACES < places {
-        return PLACES;
-    }
-    places
+    places.min(PLACES)
 }
 
-// Digits with a point: so many of them behind it.
-fn part_end(d: Digits) -> NumberRead
-    ensures { result ≡ body_end (Body.Part d) }
-{
-    let r = power_end(false, 0, d);
-    if r.ok {
-        return NumberRead {
-            ok: true,
-            millionths: r.millionths,
-            decimals: at_most_six(d.places),
-        };
-    }
-    r
-}
-
-fn body_end(body: Body) -> NumberRead
+fn body_end(body: Body) -> Option<Positive>
     ensures { result ≡ body_end body }
 {
     match body {
-        Body::Whole(minus, d) => whole_end(minus, d),
-        Body::Part(d) => part_end(d),
-        Body::Power(minus, e, d) => power_end(minus, e, d),
-        _ => bad_number(),
+        Body::Whole(minus, d) => Some(Positive {
+            millionths: whole_end(minus, d)?,
+            decimals: 0,
+        }),
+        Body::Part(d) => Some(Positive {
+            millionths: power_end(false, 0, d)?,
+            decimals: at_most_six(d.places),
+        }),
+        Body::Power(minus, e, d) => Some(Positive {
+            millionths: power_end(minus, e, d)?,
+            decimals: 0,
+        }),
+        _ => None,
     }
 }
 
 /// The scan as a positive number.
-pub fn number_end(s: Scan) -> NumberRead
+pub fn number_end(s: Scan) -> Option<Positive>
     ensures { result ≡ number_end s }
 {
-    let ends = s.ends;
-    if ends.is_broken() {
-        return bad_number();
+    if s.ends.is_broken() {
+        return None;
     }
-    let body = s.body;
-    body_end(body)
+    body_end(s.body)
 }
 
 /// What the bytes are as a positive number.
-pub fn number_of(v: &[u8]) -> NumberRead
+pub fn number_of(v: &[u8]) -> Option<Positive>
     ensures { result ≡ number_read (number_of v.now) (decimals_of v.now) }
 {
     number_end(scanned(v))

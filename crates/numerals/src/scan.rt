@@ -12,9 +12,6 @@ use crate::tens::{FAR, TOP, far};
 /// Below this one digit more stays below the top.
 pub const TENTH: u64 = 1000000000000;
 
-/// Below this one digit more of an exponent stays below its bound.
-const NEAR: u64 = 1000000000000000000;
-
 /// The digits so far, before and behind the point: they write n with so many zeros behind it, of which only those are left out of n that would
 /// bring it to the top. An n at the top has more digits that matter than a positive number may have. Of the digits so many stand behind the point.
 #[derive(Clone, Copy)]
@@ -50,35 +47,29 @@ pub struct Scan {
 fn is_mark(b: u8) -> bool
     ensures { result ≡ mark b }
 {
-    if b == b'e' {
-        return true;
-    }
-    b == b'E'
+    matches!(b, b'e' | b'E')
 }
 
 // The n with one more digit.
+#[tactic(auto, unfolding(crate::specs::Scan::joined))]
 fn digit_more(n: u64, b: u8) -> u64
     ensures { result ≡ joined n b }
 {
     if n < TENTH {
-        return 10 * n + figure_of(b) as u64;
+        10 * n + figure_of(b) as u64
+    } else if n < TOP && b == b'0' {
+        n
+    } else {
+        TOP
     }
-    if n < TOP {
-        if b == b'0' {
-            return n;
-        }
-    }
-    TOP
 }
 
 // The zeros left out of n, with one more digit.
+#[tactic(auto, unfolding(crate::specs::Scan::zeros_more))]
 fn zeros_more(n: u64, zeros: u64) -> u64
     ensures { result ≡ zeros_more n zeros }
 {
-    if n < TENTH {
-        return zeros;
-    }
-    far(zeros, 1)
+    if n < TENTH { zeros } else { far(zeros, 1) }
 }
 
 // The digits with one more, of which then so many stand behind the point.
@@ -88,19 +79,15 @@ fn with_digit(d: Digits, places: u64, b: u8) -> Digits
     Digits {
         n: digit_more(d.n, b),
         zeros: zeros_more(d.n, d.zeros),
-        places: places,
+        places,
     }
 }
 
-fn no_digits() -> Digits
-    ensures { result ≡ record { n = 0; zeros = 0; places = 0 } }
-{
-    Digits {
-        n: 0,
-        zeros: 0,
-        places: 0,
-    }
-}
+const NO_DIGITS: Digits = Digits {
+    n: 0,
+    zeros: 0,
+    places: 0,
+};
 
 // One more digit before the point.
 fn whole_digit(minus: bool, d: Digits, b: u8) -> Body
@@ -110,110 +97,109 @@ fn whole_digit(minus: bool, d: Digits, b: u8) -> Body
 }
 
 // One more digit behind the point.
+#[tactic(auto, unfolding(crate::specs::Scan::part_digit))]
 fn part_digit(d: Digits, b: u8) -> Body
     ensures { result ≡ part_digit d b }
 {
     if is_digit(b) {
-        return Body::Part(with_digit(d, far(d.places, 1), b));
+        Body::Part(with_digit(d, far(d.places, 1), b))
+    } else {
+        Body::Dead
     }
-    Body::Dead
 }
 
 // Behind a point with a digit on either side: digits, or an exponent.
+#[tactic(auto, unfolding(crate::specs::Scan::part_step))]
 fn part_step(d: Digits, b: u8) -> Body
     ensures { result ≡ part_step d b }
 {
     if is_mark(b) {
-        return Body::Mark(d);
+        Body::Mark(d)
+    } else {
+        part_digit(d, b)
     }
-    part_digit(d, b)
 }
 
 // Behind a sign: digits, or a point, which a minus does not have behind it.
+#[tactic(auto, unfolding(crate::specs::Scan::sign_step))]
 fn sign_step(minus: bool, b: u8) -> Body
     ensures { result ≡ sign_step minus b }
 {
     if is_digit(b) {
-        return whole_digit(minus, no_digits(), b);
+        whole_digit(minus, NO_DIGITS, b)
+    } else if minus {
+        Body::Dead
+    } else if b == b'.' {
+        Body::Point
+    } else {
+        Body::Dead
     }
-    if minus {
-        return Body::Dead;
-    }
-    if b == b'.' {
-        return Body::Point;
-    }
-    Body::Dead
 }
 
 // Behind digits: digits, a point, or an exponent.
+#[tactic(auto, unfolding(crate::specs::Scan::whole_step))]
 fn whole_step(minus: bool, d: Digits, b: u8) -> Body
     ensures { result ≡ whole_step minus d b }
 {
     if is_digit(b) {
-        return whole_digit(minus, d, b);
+        whole_digit(minus, d, b)
+    } else if minus {
+        Body::Dead
+    } else if b == b'.' {
+        Body::Part(d)
+    } else if is_mark(b) {
+        Body::Mark(d)
+    } else {
+        Body::Dead
     }
-    if minus {
-        return Body::Dead;
-    }
-    if b == b'.' {
-        return Body::Part(d);
-    }
-    if is_mark(b) {
-        return Body::Mark(d);
-    }
-    Body::Dead
 }
 
+#[tactic(auto, unfolding(crate::specs::Scan::first_step))]
 fn first_step(b: u8) -> Body
     ensures { result ≡ first_step b }
 {
-    if b == b'-' {
-        return Body::Signed(true);
+    match b {
+        b'-' => Body::Signed(true),
+        b'+' => Body::Signed(false),
+        _ => sign_step(false, b),
     }
-    if b == b'+' {
-        return Body::Signed(false);
-    }
-    sign_step(false, b)
 }
 
 // The exponent with one more digit, up to the bound.
 fn power_more(e: u64, b: u8) -> u64
     ensures { result ≡ min TOO_FAR (10 * e + figure b) }
 {
-    if e < NEAR {
-        let m = 10 * e + figure_of(b) as u64;
-        if m < FAR {
-            return m;
-        }
-        return FAR;
-    }
-    FAR
+    e.saturating_mul(10)
+        .saturating_add(figure_of(b) as u64)
+        .min(FAR)
 }
 
 // One more digit of an exponent.
+#[tactic(auto, unfolding(crate::specs::Scan::power_digit))]
 fn power_digit(minus: bool, e: u64, d: Digits, b: u8) -> Body
     ensures { result ≡ power_digit minus e d b }
 {
-    if !is_digit(b) {
-        return Body::Dead;
+    if is_digit(b) {
+        Body::Power(minus, power_more(e, b), d)
+    } else {
+        Body::Dead
     }
-    Body::Power(minus, power_more(e, b), d)
 }
 
 // Behind the mark of an exponent: its sign, or a digit.
+#[tactic(auto, unfolding(crate::specs::Scan::mark_step))]
 fn mark_step(d: Digits, b: u8) -> Body
     ensures { result ≡ mark_step d b }
 {
-    if b == b'-' {
-        return Body::Turned(true, d);
+    match b {
+        b'-' => Body::Turned(true, d),
+        b'+' => Body::Turned(false, d),
+        _ => power_digit(false, 0, d, b),
     }
-    if b == b'+' {
-        return Body::Turned(false, d);
-    }
-    power_digit(false, 0, d, b)
 }
 
 impl Body {
+    #[tactic(auto, unfolding(crate::specs::Scan::body_step))]
     pub fn step(self, b: u8) -> Body
         ensures { result ≡ body_step self b }
     {
@@ -221,7 +207,7 @@ impl Body {
             Body::Start => first_step(b),
             Body::Signed(minus) => sign_step(minus, b),
             Body::Whole(minus, d) => whole_step(minus, d, b),
-            Body::Point => part_digit(no_digits(), b),
+            Body::Point => part_digit(NO_DIGITS, b),
             Body::Part(d) => part_step(d, b),
             Body::Mark(d) => mark_step(d, b),
             Body::Turned(minus, d) => power_digit(minus, 0, d, b),
@@ -241,16 +227,16 @@ impl Scan {
         }
     }
 
+    #[tactic(auto, unfolding(crate::specs::Scan::step))]
     pub fn step(self, b: u8) -> Scan
         ensures { result ≡ step self b }
     {
-        let before = self.ends;
-        let body = self.body;
-        let ends = before.step(b);
+        let ends = self.ends.step(b);
         if ends.is_inside() {
-            let next = body.step(b);
-            return Scan { ends, body: next };
+            let body = self.body.step(b);
+            Scan { ends, body }
+        } else {
+            Scan { ends, ..self }
         }
-        Scan { ends, body }
     }
 }

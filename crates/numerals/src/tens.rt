@@ -12,33 +12,14 @@ pub const FAR: u64 = 10000000000000000000;
 pub fn far(a: u64, b: u64) -> u64
     ensures { result ≡ min TOO_FAR (a + b) }
 {
-    if FAR <= a {
-        return FAR;
-    }
-    if FAR - a <= b {
-        return FAR;
-    }
-    a + b
+    a.saturating_add(b).min(FAR)
 }
 
 /// n * 10^k, up to the top.
 pub fn shifted(n: u64, k: u64) -> u64
     ensures { result ≡ min TOO_LARGE (n * 10 ^ k) }
 {
-    if n == 0 {
-        return 0;
-    }
-    let mut m = n;
-    let mut left = k;
-    while 0 < left {
-        if TOP <= m {
-            return TOP;
-        }
-        m *= 10;
-        left -= 1;
-    }
-    if m < TOP {
-        return m;
-    }
-    TOP
+    // 10^20 is above the largest u64.
+    let power = 10u64.saturating_pow(k.min(20) as u32);
+    n.saturating_mul(power).min(TOP)
 }

@@ -6,48 +6,48 @@ ghost use Rattle.numerals.specs.Scan.{sized_as, int_body_end, int_end};
 use crate::ahead::scanned;
 use crate::scan::{Body, Digits, Scan};
 use crate::tens::shifted;
-use number::WholeRead;
+use number::Int;
 
 // Sizes of Ints are told apart up to here.
 const CAP: u64 = 65536;
 
 // Minus zero is zero.
-fn sized_as(minus: bool, d: Digits) -> WholeRead
+fn sized_as(minus: bool, d: Digits) -> Int
     ensures { result ≡ sized_as minus d }
 {
     if d.n == 0 {
-        return WholeRead::Is(false, 0);
+        return Int {
+            negative: false,
+            size: 0,
+        };
     }
-    let size = shifted(d.n, d.zeros);
-    if size < CAP {
-        return WholeRead::Is(minus, size as u32);
+    Int {
+        negative: minus,
+        size: shifted(d.n, d.zeros).min(CAP) as u32,
     }
-    WholeRead::Is(minus, CAP as u32)
 }
 
-fn body_end(body: Body) -> WholeRead
+fn body_end(body: Body) -> Option<Int>
     ensures { result ≡ int_body_end body }
 {
-    let Body::Whole(minus, d) = body else {
-        return WholeRead::Bad;
-    };
-    sized_as(minus, d)
+    match body {
+        Body::Whole(minus, d) => Some(sized_as(minus, d)),
+        _ => None,
+    }
 }
 
 /// The scan as an Int.
-pub fn int_end(s: Scan) -> WholeRead
+pub fn int_end(s: Scan) -> Option<Int>
     ensures { result ≡ int_end s }
 {
-    let ends = s.ends;
-    if ends.is_broken() {
-        return WholeRead::Bad;
+    if s.ends.is_broken() {
+        return None;
     }
-    let body = s.body;
-    body_end(body)
+    body_end(s.body)
 }
 
 /// What the bytes are as an Int.
-pub fn int_of(v: &[u8]) -> WholeRead
+pub fn int_of(v: &[u8]) -> Option<Int>
     ensures { paper result ≡ capped (int_of v.now) }
 {
     int_end(scanned(v))

@@ -15,8 +15,9 @@ use Rattle.model.proofs.Answers.{answered}
 use Rattle.model.proofs.Theorems.{answers_only}
 use Rattle.number.specs.Whole.{int_of, capped, paper as int_paper}
 use Rattle.number.specs.Positive.{Number, number_of, decimals_of, number_read}
-use Rattle.number.specs.declared.whole.WholeRead.{WholeRead}
-use Rattle.number.specs.declared.positive.NumberRead.{NumberRead}
+use Rattle.std.specs.Prelude.{Option}
+use Rattle.number.specs.declared.Int.{Int}
+use Rattle.number.specs.declared.Positive.{Positive}
 use Rattle.lane.specs.Record.{blank, received}
 use Rattle.lane.specs.Free.{passed}
 use Rattle.lane.proofs.Free.{check_alive_received, unknown_received}
@@ -57,8 +58,8 @@ Carried (says s end kind) =
     ((rest : Bytes) (c : Checked) → Checks (text s ++ rest) c → (c.refusal ≡ 0) × (c.start ≡ 0) × (c.end ≡ end) × (c.message.kind ≡ kind))
     × ((l : Lane) (rest old new : Bytes) (r : Received) → Receives l (text s ++ rest) old new r → 525 ≤ length old
     → (r.refusal ≡ 0) × (r.lane ≡ (passed l).lane) × (r.used ≡ end) × (r.message.kind ≡ kind))
-Carried (whole s x) = (r : WholeRead) → int_paper r ≡ capped (int_of (text s)) → int_paper r ≡ capped x
-Carried (positive s x) = (r : NumberRead) → r ≡ number_read (number_of (text s)) (decimals_of (text s)) → r ≡ number_read x (decimals_of (text s))
+Carried (whole s x) = (r : Option Int) → int_paper r ≡ capped (int_of (text s)) → int_paper r ≡ capped x
+Carried (positive s x) = (r : Option Positive) → r ≡ number_read (number_of (text s)) (decimals_of (text s)) → r ≡ number_read x (decimals_of (text s))
 Carried (receives l s v) =
     (rest old new : Bytes) (r : Received) → Receives l (text s ++ rest) old new r → 525 ≤ length old
     → (r.refusal ≡ v.refusal) × (r.lane ≡ v.lane) × (r.order ≡ v.order) × (r.used ≡ length (text s))

@@ -12,9 +12,9 @@ use Rattle.grammar.specs.Bytes.{Bytes, non_empty, within}
 use Rattle.grammar.specs.Value.{Item, read_value}
 use Rattle.number.specs.Whole.{Whole as Sized, no_int, int, int_of as sized_of, capped, paper}
 use Rattle.number.specs.Positive.{Number, no_number, number, number_of, decimals_of, number_read}
-use Rattle.number.specs.declared.whole.WholeRead.{WholeRead}
-use Rattle.number.specs.declared.whole.WholeRead.TheVariants.{Bad as NotRead, Is}
-use Rattle.number.specs.declared.positive.NumberRead.{NumberRead}
+use Rattle.std.specs.Prelude.{Option, Some, None}
+use Rattle.number.specs.declared.Int.{Int}
+use Rattle.number.specs.declared.Positive.{Positive}
 use Rattle.value.specs.Loose.{Loose}
 use Rattle.value.specs.Numbers.{Reads, read, unread, IntReads, NumberReads, GuidReads, VersionReads}
 use Rattle.value.proofs.Size.{reads_no_longer, reads_some}
@@ -57,12 +57,12 @@ inside lo hi k h g = rw (le-leb lo k h, le-leb k hi g)
 ranged_out : (lo hi : ℕ) (m : Bool) (k : ℕ) → not m && within lo hi k ≡ false → int_of (ranged lo hi (int m k)) ≡ int_of (refused 6)
 ranged_out lo hi m k e = ap (λ (b : Bool). int_of (when b (an_int k))) e
 
-module _ {raw : Bytes} (r : WholeRead) (lo hi : ℕ) (reads : IntReads raw r) where
-  pub int_unread : {q : Tried} → r ≡ NoneRead → q ≡ int_of (refused 6) → Judges int_of (whole lo hi) raw q
+module _ {raw : Bytes} (r : Option Int) (lo hi : ℕ) (reads : IntReads raw r) where
+  pub int_unread : {q : Tried} → r ≡ None → q ≡ int_of (refused 6) → Judges int_of (whole lo hi) raw q
   unfolding judged paper
   int_unread e h = record { says = λ l x. h ∙ sym (ap (λ (z : Sized). int_of (ranged lo hi z)) (not_int _ (sym (ap paper e) ∙ as_read_lem x reads))) }
 
-  module _ (m : Bool) (n : ℕ) (e : r ≡ Is m n) where
+  module _ (m : Bool) (n : ℕ) (e : r ≡ Some (record { negative = m; size = n })) where
     sized : {l : List Item} → Loose raw l → (k : ℕ) × (sized_of (read_value l) ≡ int m k) × (n ≡ min 65536 k)
     unfolding paper
     sized x = is_int _ m n (sym (ap paper e) ∙ as_read_lem x reads)
@@ -98,22 +98,22 @@ module _ {raw : Bytes} (r : WholeRead) (lo hi : ℕ) (reads : IntReads raw r) wh
         made l k a d = ap (λ (n : ℕ). as_cell 0 (1 ∷ n ∷ 0 ∷ [])) d ∙ sym (ap (λ (z : Sized). int_of (ranged lo hi z)) a ∙ ap (λ (b : Bool). int_of (when b (an_int k))) (fits k d))
 
 -- a positive number
-module _ {raw : Bytes} {r : NumberRead} {q : Tried} (reads : NumberReads raw r) where
-  pub size_good : r.ok ≡ true → q ≡ as_cell 0 (1 ∷ r.millionths ∷ r.decimals ∷ []) → Judges size_of positive raw q
+module _ {raw : Bytes} {r : Option Positive} {q : Tried} (reads : NumberReads raw r) where
+  pub size_good : {p : Positive} → r ≡ Some p → q ≡ as_cell 0 (1 ∷ p.millionths ∷ p.decimals ∷ []) → Judges size_of positive raw q
   unfolding judged number_read
-  size_good t h = record { says = λ l x. h ∙ go (number_of (read_value l)) (decimals_of (read_value l)) (as_read_lem x reads) }
+  size_good {p} t h = record { says = λ l x. h ∙ go (number_of (read_value l)) (decimals_of (read_value l)) (sym t ∙ as_read_lem x reads) }
     where
-      go : (z : Number) (d : ℕ) → r ≡ number_read z d → as_cell 0 (1 ∷ r.millionths ∷ r.decimals ∷ []) ≡ size_of (measured z d)
-      go no_number d e = clash (sym t ∙ ap (λ (r : NumberRead). r.ok) e)
-      go (number n) d e = ap (λ (r : NumberRead). as_cell 0 (1 ∷ r.millionths ∷ r.decimals ∷ [])) e
+      go : (z : Number) (d : ℕ) → Some p ≡ number_read z d → as_cell 0 (1 ∷ p.millionths ∷ p.decimals ∷ []) ≡ size_of (measured z d)
+      go no_number d e = cc
+      go (number n) d e = let f : p ≡ record { millionths = n; decimals = d } = cc in ap (λ (r : Positive). as_cell 0 (1 ∷ r.millionths ∷ r.decimals ∷ [])) f
 
-  pub size_bad : r.ok ≡ false → q ≡ size_of (refused 6) → Judges size_of positive raw q
+  pub size_bad : r ≡ None → q ≡ size_of (refused 6) → Judges size_of positive raw q
   unfolding judged number_read
-  size_bad t h = record { says = λ l x. h ∙ go (number_of (read_value l)) (decimals_of (read_value l)) (as_read_lem x reads) }
+  size_bad t h = record { says = λ l x. h ∙ go (number_of (read_value l)) (decimals_of (read_value l)) (sym t ∙ as_read_lem x reads) }
     where
-      go : (z : Number) (d : ℕ) → r ≡ number_read z d → size_of (refused 6) ≡ size_of (measured z d)
+      go : (z : Number) (d : ℕ) → None ≡ number_read z d → size_of (refused 6) ≡ size_of (measured z d)
       go no_number d e = refl
-      go (number n) d e = clash (sym (ap (λ (r : NumberRead). r.ok) e) ∙ t)
+      go (number n) d e = cc
 
 -- a value that passes a test
 when_by : (b : Bool) (v : Value) → cond b 0 6 ≡ refusal_in (when b v)

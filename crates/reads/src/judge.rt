@@ -5,7 +5,6 @@ ghost use Rattle.table.specs.Says.{refusal_in, refused};
 ghost use Rattle.reads.specs.Kept.{int_of, size_of, Judges, RowJudges};
 
 use crate::tried::{Tried, number, span};
-use number::WholeRead;
 use rows::data::Row;
 
 /// A text of at most so many bytes. What a value reads as is no longer than the value.
@@ -67,18 +66,11 @@ pub fn int(raw: &[u8], lo: u64, hi: u64) -> Tried
     requires { hi ≤ 65535 }
     ensures { Judges int_of (whole lo hi) raw.now result }
 {
-    let w = decodes::int_at(raw);
-    let WholeRead::Is(minus, size) = w else {
+    let Some(i) = decodes::int_at(raw) else {
         return bad();
     };
-    let n = size as u64;
-    if minus {
-        return bad();
-    }
-    if n < lo {
-        return bad();
-    }
-    if hi < n {
+    let n = i.size as u64;
+    if i.negative || n < lo || hi < n {
         return bad();
     }
     number(0, 1, n)
@@ -88,16 +80,15 @@ pub fn int(raw: &[u8], lo: u64, hi: u64) -> Tried
 pub fn size(raw: &[u8]) -> Tried
     ensures { Judges size_of positive raw.now result }
 {
-    let n = decodes::number_at(raw);
-    if n.ok {
-        return Tried {
-            refusal: 0,
-            there: 1,
-            a: n.millionths,
-            b: n.decimals,
-        };
+    let Some(n) = decodes::number_at(raw) else {
+        return bad();
+    };
+    Tried {
+        refusal: 0,
+        there: 1,
+        a: n.millionths,
+        b: n.decimals,
     }
-    bad()
 }
 
 /// A value that starts there, by the form of its row, which is not 0.

@@ -11,8 +11,9 @@ use Rattle.exact.specs.Exact.{done}
 use Rattle.grammar.specs.Bytes.{Bytes}
 use Rattle.grammar.specs.Value.{Item, spell_item, spell_value, GoodItem, GoodValue, good_last, good_item, read_value}
 use Rattle.number.proofs.Theorems.{int_only, number_only, guid_only, version_only}
-use Rattle.number.specs.declared.whole.WholeRead.{WholeRead}
-use Rattle.number.specs.declared.positive.NumberRead.{NumberRead}
+use Rattle.std.specs.Prelude.{Option}
+use Rattle.number.specs.declared.Int.{Int}
+use Rattle.number.specs.declared.Positive.{Positive}
 use Rattle.value.proofs.Size.{some_bytes}
 use Rattle.value.specs.Loose.{BRACKET, Loose}
 use Rattle.value.proofs.Loose.{item_exact}
@@ -68,10 +69,10 @@ reads_only f (read l x a) (unread n b) = absurd (n l x)
 reads_only f (unread n a) (read l x b) = absurd (n l x)
 reads_only f (unread n a) (unread m b) = a ∙ sym b
 
-pub int_at_only : {w : Bytes} (r q : WholeRead) → IntReads w r → IntReads w q → r ≡ q
+pub int_at_only : {w : Bytes} (r q : Option Int) → IntReads w r → IntReads w q → r ≡ q
 int_at_only r q x y = reads_only (λ v a b. int_only v r q a b) x y
 
-pub number_at_only : {w : Bytes} (r q : NumberRead) → NumberReads w r → NumberReads w q → r ≡ q
+pub number_at_only : {w : Bytes} (r q : Option Positive) → NumberReads w r → NumberReads w q → r ≡ q
 number_at_only r q x y = reads_only (λ v a b. number_only v r q a b) x y
 
 pub guid_at_only : {w : Bytes} (r q : Bool) → GuidReads w r → GuidReads w q → r ≡ q

@@ -1,20 +1,18 @@
 -- The invariant: the digits behind take each state to a later one.
-use mathlib.Core.Path.{sym, ◌∙◌}
+use mathlib.Core.Path.{refl, sym, ap}
+use Prim.Native.Nat.{ℕ, ◌+◌}
 use native.Mathlib.Omega.{arith}
 use Rattle.numerals.proofs.AheadLaws.{runs_none, runs_more}
 use Rattle.numerals.proofs.ahead.digit_run.Goals as goal
 
-pub loop-i-init : goal.loop-i-init
-loop-i-init c = runs_none _ _ _ c.requires
+pub loop-b-init : goal.loop-b-init
+loop-b-init c = record { at = refl; runs = runs_none _ _ }
+
+pub loop-b-preserved : goal.loop-b-preserved
+loop-b-preserved c = record { at = ap (λ (i : ℕ). i + 1) c.loop-b.invariant.at; runs = runs_more c.args.v.now c.args.n c.loop-b.m c.loop-b.len c.loop-b.invariant.runs c.loop-b.invariant.at c.loop-b-test.true (omega arith) c.if-m-ge-TENTH.false c.figure_of.ensures (sym c.if-not-is_digit.ensures) }
 
 pub returns-then-m-ge-TENTH : goal.returns-then-m-ge-TENTH
-returns-then-m-ge-TENTH c = c.loop-i.invariant
+returns-then-m-ge-TENTH c = c.loop-b.invariant.runs
 
-pub loop-i-preserved : goal.loop-i-preserved
-loop-i-preserved c = rw c.figure_of.ensures (runs_more _ c.loop-i.invariant c.loop-i-test.true (omega arith) c.if-m-ge-TENTH.false (sym c.is_digit.ensures ∙ c.if-is_digit.true))
-
-pub returns-else-is_digit : goal.returns-else-is_digit
-returns-else-is_digit c = c.loop-i.invariant
-
-pub returns : goal.returns
-returns c = c.loop-i.invariant
+pub returns-after-loop-b : goal.returns-after-loop-b
+returns-after-loop-b c = c.loop-b.invariant.runs

@@ -1,10 +1,6 @@
-use Prim.Native.Nat.{◌-◌}
-use lib.ListN.{length}
+use mathlib.Core.Path.{◌≡◌}
 use Rattle.numerals.specs.Ahead.{Runs}
 use Rattle.numerals.proofs.ahead.digit_run.Given as goal
 
-abbrev pub invariant-loop-i : goal.invariant-loop-i
-invariant-loop-i l = Runs l.v l.at l.n (record { n = l.m; end = l.i })
-
-abbrev pub decreases-loop-i : goal.decreases-loop-i
-decreases-loop-i l = length l.v - l.i
+abbrev pub invariant-loop-b : goal.invariant-loop-b
+invariant-loop-b l = record { at : l.len ≡ l.b-index; runs : Runs l.v l.n (record { n = l.m; len = l.len }) }

@@ -1,19 +1,14 @@
--- `is_digit` is the class of digits: each return is a range of bytes, and antt computes the class on it.
-use native.Mathlib.Omega.{arith}
-use mathlib.Core.Bool.{true, false}
+use mathlib.Core.Path.{◌≡◌, ◌∙◌}
+use Prim.Native.Nat.{ℕ}
+use lib.Dec.{leb}
+use Rattle.std.specs.Char.{is_ascii_digit}
 use Rattle.number.specs.Bytes.{digit}
-use Rattle.number.proofs.Classes.{ranged}
+use Rattle.number.proofs.Tests.{cases}
 use Rattle.numerals.proofs.byte.is_digit.Goals as goal
 
--- `is_digit` is the class of digits: each return is a range of bytes, and antt computes the class on it.
-pub returns-in-48-to-57 : goal.returns-in-48-to-57
+same : (b : ℕ) → is_ascii_digit b ≡ digit b
 unfolding digit
-returns-in-48-to-57 c = ranged digit true 48 10 tt c.args.b (omega arith) (omega arith)
+same b = cases (leb 48 b) (λ t. rw t) (λ t. rw t)
 
-pub returns-in_default : goal.returns-in_default
-unfolding digit
-returns-in_default c = ranged digit false 0 48 tt c.args.b (omega arith) (omega arith)
-
-pub returns-in_default-2 : goal.returns-in_default-2
-unfolding digit
-returns-in_default-2 c = ranged digit false 58 198 tt c.args.b (omega arith) (omega arith)
+pub returns : goal.returns
+returns c = c.is_ascii_digit.ensures.value ∙ same c.args.b

@@ -1,20 +1,27 @@
--- The loop moves the power of ten out of the number; the measure is what is left of it.
-use mathlib.Core.Path.{ap, ◌∙◌}
-use Rattle.number.specs.Positive.{Number, number_read}
+-- The loop moves the power of ten out of the number.
+use mathlib.Core.Path.{◌≡◌, ap, ◌∙◌}
+use Prim.Native.Nat.{◌-◌}
+use native.Mathlib.Omega.{arith}
+use Rattle.number.specs.Positive.{no_number}
+use Rattle.numerals.specs.Scan.{millionths_of, tenths}
 use Rattle.numerals.proofs.CodeLaws.{low_start, low_zero, low_more, low_over, low_end}
 use Rattle.numerals.proofs.positive.lowered.Goals as goal
 
 pub returns-then-n-eq0 : goal.returns-then-n-eq0
-returns-then-n-eq0 c = c.bad_number.ensures ∙ ap (λ (x : Number). number_read x 0) (rw c.if-n-eq0.true (low_zero c.args.k))
+unfolding millionths_of
+returns-then-n-eq0 c =
+    let e : no_number ≡ tenths c.args.k c.args.n = rw c.if-n-eq0.true (low_zero c.args.k) in
+    ap millionths_of e
 
-pub loop-left-init : goal.loop-left-init
-loop-left-init c = low_start c.args.n c.args.k c.if-n-eq0.false
+pub loop-init : goal.loop-init
+loop-init c = low_start c.args.n c.args.k _ c.if-n-eq0.false (omega arith)
 
 pub returns-then-m-ne0 : goal.returns-then-m-ne0
-returns-then-m-ne0 c = c.bad_number-then-m-ne0.ensures ∙ ap (λ (x : Number). number_read x 0) (low_over c.args.n c.args.k c.loop-left.m c.loop-left.left c.loop-left.invariant c.loop-left-test.true c.if-m-ne0.true)
+unfolding millionths_of
+returns-then-m-ne0 c = ap millionths_of (low_over c.args.n c.args.k c.loop.m (c.args.k - c.loop.counter) c.loop.invariant (omega arith) c.if-m-ne0.true)
 
-pub loop-left-preserved : goal.loop-left-preserved
-loop-left-preserved c = low_more c.args.n c.args.k c.loop-left.m c.loop-left.left c.loop-left.invariant c.loop-left-test.true c.if-m-ne0.false
+pub loop-preserved : goal.loop-preserved
+loop-preserved c = low_more c.args.n c.args.k c.loop.m (c.args.k - c.loop.counter) _ c.loop.invariant (omega arith) c.if-m-ne0.false
 
 pub returns : goal.returns
-returns c = c.limit.ensures ∙ ap (λ (x : Number). number_read x 0) (low_end c.args.n c.args.k c.loop-left.m c.loop-left.left c.loop-left.invariant c.loop-left-test.false)
+returns c = c.limit.ensures ∙ ap millionths_of (low_end c.args.n c.args.k c.loop.m (c.args.k - c.loop.counter) c.loop.invariant (omega arith))

@@ -3,10 +3,9 @@ use mathlib.Core.Path.{sym, ◌∙◌}
 use Rattle.numerals.specs.Scan.{number_end}
 use Rattle.numerals.proofs.positive.number_end.Goals as goal
 
--- `number_end` is the definition, test by test.
 pub returns-then-is_broken : goal.returns-then-is_broken
 unfolding number_end
-returns-then-is_broken c = rw (sym c.is_broken.ensures ∙ c.if-is_broken.true) c.bad_number.ensures
+returns-then-is_broken c = rw (sym c.is_broken.ensures ∙ c.if-is_broken.true)
 
 pub returns : goal.returns
 unfolding number_end

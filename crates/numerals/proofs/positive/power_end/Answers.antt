@@ -6,6 +6,6 @@ pub returns-then-minus : goal.returns-then-minus
 unfolding power_end
 returns-then-minus c = rw (c.if-minus.true, sym c.far-up.ensures, sym c.far.ensures) c.scaled.ensures
 
-pub returns : goal.returns
+pub returns-else-minus : goal.returns-else-minus
 unfolding power_end
-returns c = rw (c.if-minus.false, sym c.far-up.ensures, sym c.far-2.ensures) c.scaled-2.ensures
+returns-else-minus c = rw (c.if-minus.false, sym c.far-up.ensures, sym c.far-else-minus.ensures) c.scaled-else-minus.ensures

@@ -5,13 +5,9 @@ use Rattle.numerals.proofs.CodeLaws.{size_told}
 use Rattle.numerals.proofs.Picks.{picks}
 use Rattle.numerals.proofs.whole.sized_as.Goals as goal
 
--- `sized_as` is the definition, test by test.
 pub returns-then-d-eq0 : goal.returns-then-d-eq0
 unfolding sized_as
 returns-then-d-eq0 c = search picks
-
-pub returns-then-size-lt-CAP : goal.returns-then-size-lt-CAP
-returns-then-size-lt-CAP c = size_told c.args.minus c.args.d _ c.if-d-eq0.false (omega arith)
 
 pub returns : goal.returns
 returns c = size_told c.args.minus c.args.d _ c.if-d-eq0.false (omega arith)
