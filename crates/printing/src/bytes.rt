@@ -1,5 +1,5 @@
 // Bytes put into a buffer as far as they fit.
-ghost use Rattle.std.specs.Prelude.{◌≡◌, [], ◌∷◌, ◌-◌, min};
+ghost use Rattle.std.specs.Prelude.{[], ◌∷◌};
 ghost use Rattle.printing.specs.Put.{Wrote, Countable};
 
 /// The byte b at `at`, and the next place.
@@ -7,24 +7,10 @@ pub fn put_byte(out: &mut [u8], at: usize, b: u8) -> usize
     requires { Countable at (b ∷ []) }
     ensures { Wrote out.old at (b ∷ []) out.new result }
 {
-    if out.len() <= at {
-        return at + 1;
+    if at < out.len() {
+        out[at] = b;
     }
-    out[at] = b;
     at + 1
-}
-
-// How many of `want` bytes fit at `at` into a buffer of `size`.
-fn fitting(size: usize, at: usize, want: usize) -> usize
-    ensures { result ≡ min want (size - at) }
-{
-    if size <= at {
-        return 0;
-    }
-    if size - at < want {
-        return size - at;
-    }
-    want
 }
 
 /// The bytes m from `at` on, and the next place.
@@ -32,11 +18,9 @@ pub fn put(out: &mut [u8], at: usize, m: &[u8]) -> usize
     requires { Countable at m.now }
     ensures { Wrote out.old at m.now out.new result }
 {
-    let most = fitting(out.len(), at, m.len());
-    let mut i = 0;
-    while i < most {
-        out[at + i] = m[i];
-        i += 1;
+    if at < out.len() {
+        let most = m.len().min(out.len() - at);
+        out[at..at + most].copy_from_slice(&m[..most]);
     }
     at + m.len()
 }

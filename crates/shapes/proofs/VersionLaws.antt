@@ -1,43 +1,32 @@
 -- A version read in a row: digits, a point where they end, and digits to the end.
 use mathlib.Core.Path.{◌≡◌, refl, sym, ap, ◌∙◌}
-use mathlib.Core.Bool.{Bool, true, false}
+use mathlib.Core.Bool.{Bool, true, false, ◌&&◌}
 use mathlib.Core.List.{[], ◌∷◌}
 use Prim.Native.Nat.{ℕ, suc, ◌+◌, ◌-◌, ◌≤◌, ◌<◌}
 use Prim.Native.Char.{code}
 use native.Mathlib.Omega.{arith}
 use native.Mathlib.Numerals.{add-one}
 use lib.Dec.{eqb, leb}
-use lib.ListN.{length, get_or, drop, length-drop, drop_of_length-le}
+use lib.ListN.{length, get_or, take, drop, length-drop}
 use lib.Seq.{drop-cons}
-use borrow.Author.Tests.{eqb-true, eqb-false, ne_eqb, leb-true, lt-leb}
+use borrow.Author.Tests.{eqb-true, eqb-false, eq-eqb, ne_eqb, leb-true, lt-leb}
 use Rattle.number.specs.Bytes.{Bytes, and, within, digit, all, before, behind, pointed}
 use Rattle.number.specs.Version.{one_to_three, version_of}
+use Rattle.std.specs.List.{prefix_len}
 use Rattle.shapes.specs.Rows.{figures}
+use Rattle.numerals.proofs.AheadLaws.{rest_is}
 use Rattle.number.proofs.Tests.{cases, and_false, digit_low}
 
--- the digits from `from` on reach as far as those from i on
-abbrev pub Reaches : Bytes → ℕ → ℕ → Type 0
-Reaches v from i = i + figures (drop i v) ≡ from + figures (drop from v)
+-- the digits that stand first, in std's words, and how many they can be
+pub figures_first : (v : Bytes) → prefix_len digit v ≡ figures v
+unfolding figures
+figures_first [] = refl
+figures_first (b ∷ v) = cases (digit b) (λ d. rw d (let h = figures_first v in omega arith)) (λ d. rw d)
 
-module _ (v : Bytes) (from : ℕ) {i : ℕ} (r : Reaches v from i) where
-  pub reach_more : i < length v → digit (get_or v i 0) ≡ true → Reaches v from (i + 1)
-  unfolding figures
-  reach_more l d =
-      let e : drop i v ≡ get_or v i 0 ∷ drop (i + 1) v = rw add-one (drop-cons v i 0 l) in
-      let f : figures (drop i v) ≡ suc (figures (drop (i + 1) v)) = rw (e, d) in
-      omega arith
-
-  pub reach_not : i < length v → digit (get_or v i 0) ≡ false → i ≡ from + figures (drop from v)
-  unfolding figures
-  reach_not l d =
-      let f : figures (drop i v) ≡ 0 = rw (drop-cons v i 0 l, d) in
-      omega arith
-
-  pub reach_end : length v ≤ i → i ≡ from + figures (drop from v)
-  unfolding figures
-  reach_end l =
-      let f : figures (drop i v) ≡ 0 = rw (drop_of_length-le v l) in
-      omega arith
+pub figures_upto : (v : Bytes) → figures v ≤ length v
+unfolding figures
+figures_upto [] = omega arith
+figures_upto (b ∷ v) = cases (digit b) (λ d. rw d (let h = figures_upto v in omega arith)) (λ d. rw d (omega arith))
 
 -- what stands behind the first digits: nothing, a point, or another byte
 data Front (v : Bytes) : Type 0 where
@@ -68,69 +57,82 @@ front (b ∷ v) =
     (λ p. point (omega arith) (rw n (eqb-true b (code ".") p)) (rw p) (rw p) (rw (p, n)) (rw (p, n)) (rw d))
     (λ p. other (omega arith) (rw n (eqb-false b (code ".") p)) (rw (p, d)) (rw d)))
 
--- the digits that stand first end at p
-module _ (v : Bytes) {p : ℕ} (h : p ≡ 0 + figures (drop 0 v)) where
-  pub no_more : length v ≤ p → false ≡ version_of v
+-- digits alone
+alone : (r : Bytes) → one_to_three r ≡ and (eqb (figures r) (length r)) (within 1 3 (length r))
+unfolding one_to_three
+alone r = go (front r)
+  where
+    go : Front r → and (all digit r) (within 1 3 (length r)) ≡ and (eqb (figures r) (length r)) (within 1 3 (length r))
+    go (ends a q t) = rw (t, eq-eqb (figures r) (length r) a)
+    go (point k g q t m u x) = rw (x, ne_eqb (figures r) (length r) (λ e. omega arith))
+    go (other k g t x) = rw (x, ne_eqb (figures r) (length r) (λ e. omega arith))
+
+-- the digits that stand first end at p, where w begins
+module _ (v : Bytes) {p : ℕ} (h : p ≡ figures v) (w : Bytes) (e : w ≡ take (length v - p) (drop p v)) where
+  whole : w ≡ drop p v
+  whole = e ∙ rest_is v p
+
+  long : length w ≡ length v - p
+  long = ap length whole ∙ length-drop p v
+
+  next : 1 ≤ length w → w ≡ get_or v p 0 ∷ drop (p + 1) v
+  next l = let k : p < length v = omega (arith, long) in whole ∙ rw add-one (drop-cons v p 0 k)
+
+  pub no_more : length w < 1 → false ≡ version_of v
   unfolding version_of
   no_more l = go (front v)
     where
       go : Front v → false ≡ version_of v
       go (ends a q t) = rw q
-      go (point k g q t m u w) = absurd (omega arith)
-      go (other k g t w) = absurd (omega arith)
+      go (point k g q t m u x) = absurd (omega (arith, long))
+      go (other k g t x) = absurd (omega (arith, long))
 
-  pub no_point : p < length v → (get_or v p 0 ≡ code "." → ⊥) → false ≡ version_of v
+  pub no_point : 1 ≤ length w → (get_or w 0 0 ≡ code "." → ⊥) → false ≡ version_of v
   unfolding version_of one_to_three
   no_point l n = go (front v)
     where
-      same : p ≡ figures v
-      same = omega arith
-
       go : Front v → false ≡ version_of v
-      go (ends a q t) = absurd (omega arith)
-      go (point k g q t m u w) = absurd (n (rw same g))
-      go (other k g t w) = rw (t, and_false (pointed v))
+      go (ends a q t) = absurd (omega (arith, long))
+      go (point k g q t m u x) = absurd (n (ap (λ (y : Bytes). get_or y 0 0) (next l) ∙ ap (λ (i : ℕ). get_or v i 0) h ∙ g))
+      go (other k g t x) = rw (t, and_false (pointed v))
 
-  -- behind the point digits end at e
-  module _ {e : ℕ} (l : p < length v) (n : get_or v p 0 ≡ code ".") (k : e ≡ p + 1 + figures (drop (p + 1) v)) where
-    told : version_of v ≡ and (within 1 3 p) (one_to_three (drop (p + 1) v))
+  -- behind the point, where r begins, stand q digits
+  module _ (r : Bytes) (f : r ≡ take (length w - 1) (drop 1 w)) (l : 1 ≤ length w) (n : get_or w 0 0 ≡ code ".") where
+    last : r ≡ drop (p + 1) v
+    last = f ∙ rest_is w 1 ∙ ap (drop 1) (next l)
+
+    told : version_of v ≡ and (within 1 3 p) (one_to_three r)
     unfolding version_of one_to_three
     told = go (front v)
       where
-        same : p ≡ figures v
-        same = omega arith
-
-        go : Front v → version_of v ≡ and (within 1 3 p) (one_to_three (drop (p + 1) v))
-        go (ends a q t) = absurd (omega arith)
-        go (point k g q t m u w) = rw (q, t, m, u, same, add-one (figures v))
-        go (other k g t w) = absurd (g (rw same at n))
-
-    pub rest_not : e < length v → false ≡ version_of v
-    unfolding one_to_three
-    rest_not o = sym (told ∙ go (front (drop (p + 1) v)))
-      where
-        long : length (drop (p + 1) v) ≡ length v - (p + 1)
-        long = length-drop (p + 1) v
-
-        go : Front (drop (p + 1) v) → and (within 1 3 p) (one_to_three (drop (p + 1) v)) ≡ false
+        go : Front v → version_of v ≡ and (within 1 3 p) (one_to_three r)
         go (ends a q t) = absurd (omega (arith, long))
-        go (point i g q t m u w) = rw (w, and_false (within 1 3 p))
-        go (other i g t w) = rw (w, and_false (within 1 3 p))
+        go (point k g q t m u x) = rw (q, t, m, u, last, h, add-one (figures v))
+        go (other k g t x) = absurd (g (ap (λ (i : ℕ). get_or v i 0) (sym h) ∙ sym (ap (λ (y : Bytes). get_or y 0 0) (next l)) ∙ n))
 
-    pub grouped : length v ≤ e → within 1 3 p ≡ true → {r : Bool} → r ≡ within 1 3 (e - p - 1) → r ≡ version_of v
-    unfolding one_to_three
-    grouped o y {r} f = f ∙ sym (told ∙ rw y (go (front (drop (p + 1) v))))
+    pub grouped : {q : ℕ} {a b : Bool} → q ≡ figures r → a ≡ within 1 3 p → b ≡ within 1 3 q → (eqb q (length r) && a) && b ≡ version_of v
+    grouped {q} {a} {b} c g k = cases (eqb q (length r)) (λ t. yes t) (λ t. no t)
       where
-        long : length (drop (p + 1) v) ≡ length v - (p + 1)
-        long = length-drop (p + 1) v
+        same : (x y : Bool) → x && y ≡ and x y
+        same true y = refl
+        same false y = refl
 
-        go : Front (drop (p + 1) v) → one_to_three (drop (p + 1) v) ≡ within 1 3 (e - p - 1)
-        go (ends a q t) = let z : length (drop (p + 1) v) ≡ e - p - 1 = omega (arith, long) in rw (t, z)
-        go (point i g q t m u w) = absurd (omega (arith, long))
-        go (other i g t w) = absurd (omega (arith, long))
+        both : (a b : Bool) {x y : Bool} → a ≡ x → b ≡ y → a && b ≡ and x y
+        both a b {x} {y} s t = rw (s, t) (same x y)
 
-    pub ungrouped : within 1 3 p ≡ false → false ≡ version_of v
-    ungrouped y = sym (told ∙ rw y)
+        yes : eqb q (length r) ≡ true → (eqb q (length r) && a) && b ≡ version_of v
+        yes t =
+            let z : within 1 3 q ≡ within 1 3 (length r) = ap (within 1 3) (eqb-true q (length r) t) in
+            let y : eqb (figures r) (length r) ≡ true = rw (sym c) t in
+            let o : one_to_three r ≡ within 1 3 (length r) = alone r ∙ rw y in
+            rw t (both a b (g) (k ∙ z)) ∙ sym (told ∙ ap (and (within 1 3 p)) o)
+
+        no : eqb q (length r) ≡ false → (eqb q (length r) && a) && b ≡ version_of v
+        no t =
+            let y : eqb (figures r) (length r) ≡ false = rw (sym c) t in
+            let o : one_to_three r ≡ false = alone r ∙ rw y in
+            let z : (eqb q (length r) && a) && b ≡ false = rw t in
+            z ∙ sym (told ∙ ap (and (within 1 3 p)) o ∙ and_false (within 1 3 p))
 
 -- before the first point, the point, and behind it
 parts_long : (v : Bytes) → length v ≤ length (before v) + 1 + length (behind v)

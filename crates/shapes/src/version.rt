@@ -1,5 +1,5 @@
 // Version: digits before a point, and digits behind it.
-ghost use Rattle.std.specs.Prelude.{◌≡◌, ◌+◌, drop};
+ghost use Rattle.std.specs.Prelude.{◌≡◌, ◌≤◌, length};
 ghost use Rattle.number.specs.Bytes.{within};
 ghost use Rattle.number.specs.Version.{version_of};
 ghost use Rattle.shapes.specs.Rows.{figures};
@@ -9,47 +9,29 @@ use numerals::byte::is_digit;
 // Digits of a version, before and behind the point.
 const GROUP: usize = 3;
 
-// Where the digits end that stand from there on.
-fn digits_end(v: &[u8], from: usize) -> usize
-    ensures { result ≡ from + figures (drop from v.now) }
+// How many digits stand first.
+fn digits(v: &[u8]) -> usize
+    ensures upto { result ≤ length v.now }
+    ensures count { result ≡ figures v.now }
 {
-    let mut i = from;
-    while i < v.len() {
-        if !is_digit(v[i]) {
-            return i;
-        }
-        i += 1;
-    }
-    i
+    v.iter().take_while(|b| is_digit(**b)).count()
 }
 
 // Whether a version may have so many digits before or behind the point.
 fn is_group(n: usize) -> bool
     ensures { result ≡ within 1 3 n }
 {
-    if n == 0 {
-        return false;
-    }
-    n <= GROUP
+    1 <= n && n <= GROUP
 }
 
 /// Whether the bytes are a version.
 pub fn is_version(v: &[u8]) -> bool
     ensures { result ≡ version_of v.now }
 {
-    let point = digits_end(v, 0);
-    if v.len() <= point {
+    let before = digits(v);
+    let [b'.', rest @ ..] = &v[before..] else {
         return false;
-    }
-    if v[point] != b'.' {
-        return false;
-    }
-    let end = digits_end(v, point + 1);
-    if end < v.len() {
-        return false;
-    }
-    if is_group(point) {
-        return is_group(end - point - 1);
-    }
-    false
+    };
+    let behind = digits(rest);
+    (behind == rest.len()) & is_group(before) & is_group(behind)
 }

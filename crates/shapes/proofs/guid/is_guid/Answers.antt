@@ -1,10 +1,9 @@
--- What its places do not show at once is shown byte by byte.
-use mathlib.Core.Path.{sym}
+-- Groups of digits with hyphens between them.
+use Rattle.shapes.proofs.GuidLaws.{not_36, tests_joined}
 use Rattle.shapes.proofs.guid.is_guid.Goals as goal
 
--- What its places do not show at once is shown byte by byte.
-pub returns-then-is_placed : goal.returns-then-is_placed
-returns-then-is_placed c = sym (c.is_placed.ensures c.if-is_placed.true)
+pub returns-then-v-ne36 : goal.returns-then-v-ne36
+returns-then-v-ne36 c = not_36 c.args.v.now c.if-v-ne36.true
 
 pub returns : goal.returns
-returns c = c.is_filled.ensures
+returns c = tests_joined c.args.v.now _ _ _ _ _ c.if-v-ne36.false c.all_hex.ensures c.all_hex-2.ensures c.all_hex-3.ensures c.all_hex-4.ensures c.all_hex-5.ensures

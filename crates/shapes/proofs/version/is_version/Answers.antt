@@ -1,20 +1,14 @@
--- `is_version` is the definition on every slice: the digits end at a point, and those behind it at the end.
-use mathlib.Core.Path.{sym, ◌∙◌}
-use Rattle.shapes.proofs.VersionLaws.{no_more, no_point, rest_not, grouped, ungrouped}
+-- The digits end at a point, and those behind it at the end.
+use mathlib.Core.Path.{refl}
+use native.Mathlib.Omega.{arith}
+use Rattle.shapes.proofs.VersionLaws.{no_more, no_point, grouped}
 use Rattle.shapes.proofs.version.is_version.Goals as goal
 
--- `is_version` is the definition on every slice: the digits end at a point, and those behind it at the end.
-pub returns-then-v-point : goal.returns-then-v-point
-returns-then-v-point c = no_more _ c.digits_end-point.ensures c.if-v-point.true
+pub returns-in_default : goal.returns-in_default
+returns-in_default c = no_more c.args.v.now c.digits-before.ensures.count _ refl c.in_default.len_below
 
-pub returns-then-v-point-ne46 : goal.returns-then-v-point-ne46
-returns-then-v-point-ne46 c = no_point _ c.digits_end-point.ensures c.if-v-point.false c.if-v-point-ne46.true
-
-pub returns-then-end-v : goal.returns-then-end-v
-returns-then-end-v c = rest_not _ c.digits_end-point.ensures c.if-v-point.false c.if-v-point-ne46.false c.digits_end-end.ensures c.if-end-v.true
-
-pub returns-then-is_group : goal.returns-then-is_group
-returns-then-is_group c = grouped _ c.digits_end-point.ensures c.if-v-point.false c.if-v-point-ne46.false c.digits_end-end.ensures c.if-end-v.false (sym c.is_group.ensures ∙ c.if-is_group.true) c.is_group-then-is_group.ensures
+pub returns-in_default-2 : goal.returns-in_default-2
+returns-in_default-2 c = no_point c.args.v.now c.digits-before.ensures.count _ refl c.in_default.len_at_least (λ e. omega arith)
 
 pub returns : goal.returns
-returns c = ungrouped _ c.digits_end-point.ensures c.if-v-point.false c.if-v-point-ne46.false c.digits_end-end.ensures (sym c.is_group.ensures ∙ c.if-is_group.false)
+returns c = grouped c.args.v.now c.digits-before.ensures.count _ refl _ refl c.in-46.len_at_least (omega arith) c.digits-behind.ensures.count c.is_group.ensures c.is_group-2.ensures
