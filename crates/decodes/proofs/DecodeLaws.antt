@@ -96,12 +96,6 @@ putting_end {old} {m} {new} {n} {k} {r} p h e =
     let t : take k m ≡ m = take_all k m h in
     rw (t, z) at p.put
 
-pub put_in_room : {old m new : Bytes} {n k r : ℕ} → Putting old n m new k → length m ≤ k → r ≡ n + length m → PutInRoom old n m new r
-put_in_room p h e = record { next = e; long = p.long; put = λ l. putting_end p h e }
-
-pub no_put : (old : Bytes) (n : ℕ) (m : Bytes) {r : ℕ} → r ≡ n + length m → length old < r → PutInRoom old n m old r
-no_put old n m e h = record { next = e; long = refl; put = λ l. absurd (omega arith) }
-
 -- what was read up to i stands first, if there is room for it
 pub record Filled (src old new : Bytes) (i n : ℕ) : Type 0 where
   pub counted : Counted src i n

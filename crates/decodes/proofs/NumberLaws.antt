@@ -4,7 +4,7 @@ use mathlib.Core.List.{[], ◌++◌}
 use mathlib.Core.Bool.{Bool, true}
 use Prim.Native.Nat.{ℕ, ◌≤◌}
 use native.Mathlib.Omega.{arith}
-use lib.ListN.{length}
+use lib.ListN.{length, take}
 use Rattle.grammar.specs.Bytes.{Bytes}
 use Rattle.grammar.specs.Character.{utf8}
 use Rattle.grammar.specs.Value.{read_value}
@@ -22,6 +22,10 @@ use Rattle.decodes.specs.Walked.{WalkCase, WalkSays}
 -- what is said of the bytes of a plain value is said of what it reads as
 pub plain_read : {A : Type 0} {says : Bytes → A → Type 0} {none : A} {w : Bytes} {p : Bool} {r : A} → p ≡ plain w → p ≡ true → says w r → Reads says none w r
 plain_read {says = says} {w = w} {r = r} h k s = let (l, x, e) = plain_reads w (sym h ∙ k) in read l x (subst (λ (v : Bytes). says v r) (sym e) s)
+
+-- the bytes of a character, which stand first in b
+pub first_run : (from : Scan) (b w : Bytes) {n : ℕ} → n ≡ length w → take (length w) b ≡ w → run step from (take n b) ≡ run step from w
+first_run from b w e h = ap (λ (k : ℕ). run step from (take k b)) e ∙ ap (run step from) h
 
 -- the scan after what was read up to i
 pub record Scanned (src : Bytes) (i : ℕ) (s : Scan) : Type 0 where

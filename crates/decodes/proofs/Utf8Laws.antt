@@ -2,7 +2,7 @@
 use mathlib.Core.Path.{◌≡◌, sym, ap, ◌∙◌}
 use mathlib.Core.List.{[], ◌∷◌}
 use Prim.Native.Nat.{ℕ, ◌+◌, ◌/◌, ◌%◌, ◌≤◌, ◌<◌}
-use lib.ListN.{length, get_or}
+use lib.ListN.{length, take}
 use borrow.Author.Tests.{le-leb, lt-leb}
 use Rattle.grammar.specs.Bytes.{Bytes}
 use Rattle.grammar.specs.Character.{utf8}
@@ -27,9 +27,6 @@ four_bytes c h k l = rw (lt-leb c 0x7F h, lt-leb c 0x7FF k, lt-leb c 0xFFFF l)
 pub counted : {w m : Bytes} → w ≡ m → {n : ℕ} → n ≡ length m → n ≡ length w
 counted e h = h ∙ ap length (sym e)
 
--- the byte k of them
-pub picked : {w m : Bytes} → w ≡ m → {r : ℕ} (k : ℕ) → r ≡ get_or m k 0 → r ≡ get_or w k 0
-picked e k h = h ∙ ap (λ (x : Bytes). get_or x k 0) (sym e)
-
-pub below : {w m : Bytes} → w ≡ m → (k : ℕ) → k < length w → k < length m
-below e k h = rw e at h
+-- they stand first
+pub first_of : {w m : Bytes} (l : Bytes) → w ≡ m → take (length m) l ≡ m → take (length w) l ≡ w
+first_of l e h = rw e h

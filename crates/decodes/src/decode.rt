@@ -4,7 +4,7 @@ ghost use Rattle.grammar.specs.Character.{utf8};
 ghost use Rattle.decodes.specs.Decoded.{LengthSays, PutInRoom, Decoded};
 
 use crate::units::unit;
-use crate::utf8::{utf8_byte, utf8_len};
+use crate::utf8::{utf8_bytes, utf8_len};
 
 /// How many bytes the value reads as, if the bytes are items.
 pub fn text_len(raw: &[u8]) -> Option<usize>
@@ -25,13 +25,9 @@ fn put_utf8(out: &mut [u8], n: usize, next: usize, c: usize) -> usize
     requires { (c ≤ 0x10FFFF) × (next ≡ n + length (utf8 c)) }
     ensures { PutInRoom out.old n (utf8 c) out.new result }
 {
-    if out.len() < next {
-        return next;
-    }
-    let mut k = 0;
-    while n + k < next {
-        out[n + k] = utf8_byte(c, k);
-        k += 1;
+    if next <= out.len() {
+        let bytes = utf8_bytes(c);
+        out[n..next].copy_from_slice(&bytes[..next - n]);
     }
     next
 }

@@ -7,7 +7,7 @@ ghost use Rattle.value.specs.Numbers.{IntReads, NumberReads};
 
 use crate::tests::is_plain;
 use crate::units::unit;
-use crate::utf8::{utf8_byte, utf8_len};
+use crate::utf8::{utf8_bytes, utf8_len};
 use number::{Int, Positive};
 use numerals::Scan;
 
@@ -16,12 +16,10 @@ fn char_step(from: Scan, c: usize) -> Scan
     requires { c ≤ 0x10FFFF }
     ensures { result ≡ run step from (utf8 c) }
 {
-    let most = utf8_len(c);
+    let bytes = utf8_bytes(c);
     let mut s = from;
-    let mut k = 0;
-    while k < most {
-        s = s.step(utf8_byte(c, k));
-        k += 1;
+    for &b in &bytes[..utf8_len(c)] {
+        s = s.step(b);
     }
     s
 }
@@ -47,10 +45,7 @@ pub fn int_at(raw: &[u8]) -> Option<Int>
     if is_plain(raw) {
         return numerals::int_of(raw);
     }
-    let Some(s) = walked(raw) else {
-        return None;
-    };
-    numerals::int_end(s)
+    numerals::int_end(walked(raw)?)
 }
 
 /// A positive number, as the value reads.
@@ -60,8 +55,5 @@ pub fn number_at(raw: &[u8]) -> Option<Positive>
     if is_plain(raw) {
         return numerals::number_of(raw);
     }
-    let Some(s) = walked(raw) else {
-        return None;
-    };
-    numerals::number_end(s)
+    numerals::number_end(walked(raw)?)
 }

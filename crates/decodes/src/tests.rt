@@ -8,77 +8,40 @@ ghost use Rattle.decodes.specs.Plain.{plain_char, plain};
 fn is_altered(b: u8) -> bool
     ensures { result ≡ altered b }
 {
-    if b == b'&' {
-        return true;
-    }
-    if b == b'\t' {
-        return true;
-    }
-    if b == b'\n' {
-        return true;
-    }
-    b == b'\r'
+    matches!(b, b'&' | b'\t' | b'\n' | b'\r')
 }
 
 /// Whether w stands exactly as it reads.
 pub fn is_as_read(w: &[u8]) -> bool
     ensures { result ≡ as_read w.now }
 {
-    let mut i = 0;
-    while i < w.len() {
-        if is_altered(w[i]) {
-            return false;
-        }
-        i += 1;
-    }
-    true
+    w.iter().all(|b| !is_altered(*b))
 }
 
 // Whether b is a character that may stand in every value, and reads as itself.
 fn is_plain_char(b: u8) -> bool
     ensures { result ≡ plain_char b }
 {
-    match b {
-        b' '..=b'%' | b'\''..=b';' | b'='..=0x7F => true,
-        _ => false,
-    }
+    matches!(b, b' '..=b'%' | b'\''..=b';' | b'='..=0x7F)
 }
 
 /// Whether w is plain: a value that stands exactly as it reads.
 pub fn is_plain(w: &[u8]) -> bool
     ensures { result ≡ plain w.now }
 {
-    let mut i = 0;
-    while i < w.len() {
-        if is_plain_char(w[i]) {
-            i += 1;
-        } else {
-            return false;
-        }
-    }
-    true
+    w.iter().all(|b| is_plain_char(*b))
 }
 
 // Whether no byte of w is q.
 fn has_none(w: &[u8], q: u8) -> bool
     ensures { result ≡ lacks q w.now }
 {
-    let mut i = 0;
-    while i < w.len() {
-        if w[i] == q {
-            return false;
-        }
-        i += 1;
-    }
-    true
+    w.iter().all(|b| *b != q)
 }
 
 /// Whether w has not both kinds of quotes.
 pub fn is_quotable(w: &[u8]) -> bool
     ensures { result ≡ lacks 34 w.now || lacks 39 w.now }
 {
-    if has_none(w, b'"') {
-        return true;
-    }
-    has_none(w, b'\'')
+    has_none(w, b'"') || has_none(w, b'\'')
 }

@@ -9,6 +9,6 @@ pub mod scan;
 mod tens;
 pub mod whole;
 
-pub use positive::{at_most_six, number_end, number_of};
+pub use positive::{number_end, number_of};
 pub use scan::Scan;
 pub use whole::{int_end, int_of};

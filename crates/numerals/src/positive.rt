@@ -1,6 +1,6 @@
 // Positive number: above zero, and short enough when written out; told in millionths.
-ghost use Rattle.std.specs.Prelude.{◌≡◌, ◌*◌, ◌^◌, min};
-ghost use Rattle.number.specs.Positive.{BEHIND, number_of, decimals_of, number_read};
+ghost use Rattle.std.specs.Prelude.{◌≡◌, ◌*◌, ◌^◌};
+ghost use Rattle.number.specs.Positive.{number_of, decimals_of, number_read};
 ghost use Rattle.numerals.specs.Scan.{millionths_of, limited, tenths, ended, power_end, whole_end, body_end, number_end};
 
 use crate::ahead::scanned;
@@ -68,13 +68,6 @@ fn whole_end(minus: bool, d: Digits) -> Option<u64>
     if minus { None } else { power_end(false, 0, d) }
 }
 
-/// A count of digits behind the point, up to 6.
-pub fn at_most_six(places: u64) -> u64
-    ensures { result ≡ min BEHIND places }
-{
-    places.min(PLACES)
-}
-
 fn body_end(body: Body) -> Option<Positive>
     ensures { result ≡ body_end body }
 {
@@ -85,7 +78,7 @@ fn body_end(body: Body) -> Option<Positive>
         }),
         Body::Part(d) => Some(Positive {
             millionths: power_end(false, 0, d)?,
-            decimals: at_most_six(d.places),
+            decimals: d.places.min(PLACES),
         }),
         Body::Power(minus, e, d) => Some(Positive {
             millionths: power_end(minus, e, d)?,

@@ -1,5 +1,5 @@
 -- Runs of bytes that are written as they are: tested, made longer, and put down whole.
-use mathlib.Core.Path.{◌≡◌, refl, sym, ap, ◌∙◌}
+use mathlib.Core.Path.{◌≡◌, refl, sym, ap, subst, ◌∙◌}
 use mathlib.Core.List.{[], ◌∷◌, ◌++◌, append-nil}
 use mathlib.Core.Bool.{true, ◌&&◌, not}
 use Prim.Native.Nat.{ℕ, zero, suc, ◌+◌, ◌-◌, ◌≤◌, ◌<◌}
@@ -54,6 +54,9 @@ kept_on {s} {i} {j} n a h p = record {
 
 pub kept_one : {s : Bytes} {i j : ℕ} → Kept s i j → j < length s → escape_byte (get_or s j 0) ≡ get_or s j 0 ∷ [] → Kept s i (j + 1)
 kept_one {s} {i} {j} a h e = kept_on 1 a (omega arith) (λ k l. let x : j + k ≡ j = omega arith in rw x e)
+
+pub kept_all : {s : Bytes} {i j : ℕ} → Kept s i j → length s ≤ j → Kept s i (length s)
+kept_all {s} {i} {j} k h = let e : j ≡ length s = omega (arith, k.upto) in subst (λ (n : ℕ). Kept s i n) e k
 
 stays_part : (s : Bytes) (i n : ℕ) → i + n ≤ length s → Stay s i n → escape (take n (drop i s)) ≡ take n (drop i s)
 unfolding escape

@@ -50,14 +50,12 @@ fn stay_run(text: &[u8], at: usize) -> usize
     requires { at ≤ length text.now }
     ensures { Kept text.now at result }
 {
-    let mut i = stay_eights(text, at);
-    while i < text.len() {
+    for i in stay_eights(text, at)..text.len() {
         if stays(text[i]) == 0 {
             return i;
         }
-        i += 1;
     }
-    i
+    text.len()
 }
 
 // What b becomes, and the next place; its references are laid out first, so bytes that stay come here seldom.

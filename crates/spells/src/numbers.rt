@@ -5,7 +5,6 @@ ghost use Rattle.number.specs.Digits.{places};
 ghost use Rattle.printing.specs.Put.{Wrote, Countable};
 ghost use Rattle.spelling.specs.Written.{mattering, padded, print_part, print_decimal};
 
-use numerals::at_most_six;
 use printing::{put_byte, put_digits, put_places};
 
 // A whole, in millionths.
@@ -28,10 +27,7 @@ fn cut(n: u64, least: u64) -> Part
 {
     let mut k = PLACES;
     let mut m = n;
-    while least < k {
-        if m % 10 != 0 {
-            return Part { k, m };
-        }
+    while least < k && m % 10 == 0 {
         m /= 10;
         k -= 1;
     }
@@ -57,7 +53,7 @@ pub fn put_decimal(out: &mut [u8], at: usize, millionths: u64, decimals: u64) ->
     requires { Countable at (print_decimal millionths decimals) }
     ensures { Wrote out.old at (print_decimal millionths decimals) out.new result }
 {
-    let least = at_most_six(decimals);
+    let least = decimals.min(PLACES);
     let mid = put_digits(out, at, millionths / ONE);
     put_part(out, mid, millionths % ONE, least)
 }

@@ -11,8 +11,8 @@ use Rattle.decodes.proofs.numbers.int_at.Goals as goal
 pub returns-then-is_plain : goal.returns-then-is_plain
 returns-then-is_plain c = plain_read c.is_plain.ensures c.if-is_plain.true c.int_of.ensures
 
-pub returns-in_default : goal.returns-in_default
-returns-in_default c = walk_none (λ v q. paper q ≡ capped (int_of v)) None c.walked.ensures c.in_default.is refl
+pub returns-in_err-walked : goal.returns-in_err-walked
+returns-in_err-walked c = walk_none (λ v q. paper q ≡ capped (int_of v)) None c.walked.ensures c.in_err-walked.was c.from_residual.ensures
 
 pub returns : goal.returns
-returns c = walk_read (λ v q. paper q ≡ capped (int_of v)) None c.walked.ensures c.in-Some.is (λ v n e. ap paper (c.int_end.ensures ∙ ap int_end e) ∙ int_exact v)
+returns c = walk_read (λ v q. paper q ≡ capped (int_of v)) None c.walked.ensures c.in_ok-walked.was (λ v n e. ap paper (c.int_end.ensures ∙ ap int_end e) ∙ int_exact v)

@@ -1,13 +1,14 @@
--- The invariant: the bytes from here on say it.
-use native.Mathlib.Omega.{arith}
-use Rattle.decodes.proofs.TestLaws.{every_hit, every_miss, every_end, equal_not, other_not}
+use mathlib.Core.Path.{◌∙◌}
+use mathlib.Core.Bool.{not}
+use lib.Dec.{eqb}
+use borrow.Author.Tests.{tests}
+use Rattle.std.proofs.Common.{rules}
+use Rattle.std.proofs.lemmas.Iterator.{YieldsList-from_slice}
+use Rattle.std.proofs.lemmas.Iterator.Search.{all_from_yields_List}
+use Rattle.value.specs.Text.{altered}
+use Rattle.decodes.specs.Plain.{plain_char}
+use Rattle.decodes.proofs.TestLaws.{every_is, equal_turned}
 use Rattle.decodes.proofs.tests.has_none.Goals as goal
 
-pub returns-then-w-i : goal.returns-then-w-i
-returns-then-w-i c = every_miss _ c.args.w.now c.loop-i.i c.loop-i.invariant (omega arith) (equal_not _ _ c.if-w-i.true)
-
-pub loop-i-preserved : goal.loop-i-preserved
-loop-i-preserved c = every_hit _ c.args.w.now c.loop-i.i c.loop-i.invariant (omega arith) (other_not _ _ c.if-w-i.false)
-
 pub returns : goal.returns
-returns c = every_end _ c.args.w.now c.loop-i.i c.loop-i.invariant c.loop-i-test.false
+returns c = all_from_yields_List (λ b. not (eqb c.args.q b)) _ _ _ c.all.ensures.ran (YieldsList-from_slice c.args.w.now (cc)) (λ x b q k. search (rules, tests, equal_turned)) ∙ every_is (λ b. not (eqb c.args.q b)) c.args.w.now

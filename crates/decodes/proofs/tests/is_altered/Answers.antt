@@ -1,16 +1,23 @@
--- One of the four bytes.
-use Rattle.decodes.proofs.TestLaws.{altered_amp, altered_tab, altered_lf, altered_last}
+-- One of the four bytes: antt computes the class on them and between them.
+use native.Mathlib.Omega.{arith}
+use mathlib.Core.Bool.{true, false}
+use mathlib.Core.List.{[], ◌∷◌}
+use Rattle.number.proofs.Classes.{ranged, ranged_but, keyed}
+use Rattle.value.specs.Text.{altered}
 use Rattle.decodes.proofs.tests.is_altered.Goals as goal
 
--- One of the four bytes.
-pub returns-then-b-eq38 : goal.returns-then-b-eq38
-returns-then-b-eq38 c = altered_amp _ c.if-b-eq38.true
+pub returns-in-38 : goal.returns-in-38
+unfolding altered
+returns-in-38 c = keyed altered true (13 ∷ 38 ∷ []) tt c.args.b c.in-38.is
 
-pub returns-then-b-eq9 : goal.returns-then-b-eq9
-returns-then-b-eq9 c = altered_tab _ c.if-b-eq9.true
+pub returns-in-38-2 : goal.returns-in-38-2
+unfolding altered
+returns-in-38-2 c = ranged altered true 9 2 tt c.args.b (omega arith) (omega arith)
 
-pub returns-then-b-eq10 : goal.returns-then-b-eq10
-returns-then-b-eq10 c = altered_lf _ c.if-b-eq10.true
+pub returns-in_default : goal.returns-in_default
+unfolding altered
+returns-in_default c = ranged altered false 0 9 tt c.args.b (omega arith) (omega arith)
 
-pub returns : goal.returns
-returns c = altered_last _ c.if-b-eq38.false c.if-b-eq9.false c.if-b-eq10.false
+pub returns-in_default-2 : goal.returns-in_default-2
+unfolding altered
+returns-in_default-2 c = ranged_but altered false (13 ∷ 38 ∷ []) 11 245 tt c.args.b (omega arith) (omega arith) c.in_default.in_default-own.rest.1

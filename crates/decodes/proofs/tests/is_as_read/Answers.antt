@@ -1,13 +1,14 @@
--- The invariant: the bytes from here on say it.
-use native.Mathlib.Omega.{arith}
-use Rattle.decodes.proofs.TestLaws.{every_hit, every_miss, every_end, denied}
+use mathlib.Core.Path.{◌∙◌}
+use mathlib.Core.Bool.{not}
+use lib.Dec.{eqb}
+use borrow.Author.Tests.{tests}
+use Rattle.std.proofs.Common.{rules}
+use Rattle.std.proofs.lemmas.Iterator.{YieldsList-from_slice}
+use Rattle.std.proofs.lemmas.Iterator.Search.{all_from_yields_List}
+use Rattle.value.specs.Text.{altered}
+use Rattle.decodes.specs.Plain.{plain_char}
+use Rattle.decodes.proofs.TestLaws.{every_is}
 use Rattle.decodes.proofs.tests.is_as_read.Goals as goal
 
-pub returns-then-is_altered : goal.returns-then-is_altered
-returns-then-is_altered c = every_miss _ c.args.w.now c.loop-i.i c.loop-i.invariant (omega arith) (denied c.is_altered.ensures c.if-is_altered.true)
-
-pub loop-i-preserved : goal.loop-i-preserved
-loop-i-preserved c = every_hit _ c.args.w.now c.loop-i.i c.loop-i.invariant (omega arith) (denied c.is_altered.ensures c.if-is_altered.false)
-
 pub returns : goal.returns
-returns c = every_end _ c.args.w.now c.loop-i.i c.loop-i.invariant c.loop-i-test.false
+returns c = all_from_yields_List (λ b. not (altered b)) _ _ _ c.all.ensures.ran (YieldsList-from_slice c.args.w.now (cc)) (λ x b q k. search (rules, tests)) ∙ every_is (λ b. not (altered b)) c.args.w.now

@@ -1,14 +1,14 @@
--- The invariant: the bytes from here on say it.
-use mathlib.Core.Path.{sym, ◌∙◌}
-use native.Mathlib.Omega.{arith}
-use Rattle.decodes.proofs.TestLaws.{every_hit, every_miss, every_end}
+use mathlib.Core.Path.{◌∙◌}
+use mathlib.Core.Bool.{not}
+use lib.Dec.{eqb}
+use borrow.Author.Tests.{tests}
+use Rattle.std.proofs.Common.{rules}
+use Rattle.std.proofs.lemmas.Iterator.{YieldsList-from_slice}
+use Rattle.std.proofs.lemmas.Iterator.Search.{all_from_yields_List}
+use Rattle.value.specs.Text.{altered}
+use Rattle.decodes.specs.Plain.{plain_char}
+use Rattle.decodes.proofs.TestLaws.{every_is}
 use Rattle.decodes.proofs.tests.is_plain.Goals as goal
 
-pub loop-i-preserved : goal.loop-i-preserved
-loop-i-preserved c = every_hit _ c.args.w.now c.loop-i.i c.loop-i.invariant (omega arith) (sym c.is_plain_char.ensures ∙ c.if-is_plain_char.true)
-
-pub returns-else-is_plain_char : goal.returns-else-is_plain_char
-returns-else-is_plain_char c = every_miss _ c.args.w.now c.loop-i.i c.loop-i.invariant (omega arith) (sym c.is_plain_char.ensures ∙ c.if-is_plain_char.false)
-
 pub returns : goal.returns
-returns c = every_end _ c.args.w.now c.loop-i.i c.loop-i.invariant c.loop-i-test.false
+returns c = all_from_yields_List plain_char _ _ _ c.all.ensures.ran (YieldsList-from_slice c.args.w.now (cc)) (λ x b q k. search (rules, tests)) ∙ every_is plain_char c.args.w.now

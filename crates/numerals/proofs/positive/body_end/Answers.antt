@@ -1,5 +1,6 @@
 -- A number with its digits behind the point, or none.
 use mathlib.Core.Path.{refl}
+use native.Mathlib.Omega.{arith}
 use Rattle.numerals.specs.Scan.{body_end, number_body_end, body_decimals}
 use Rattle.numerals.proofs.Picks.{known}
 use Rattle.numerals.proofs.Cases.{no_end}
@@ -20,7 +21,7 @@ returns-in_err-power_end-in-Part c = known body_end c.in-Part.is (told_none _ _ 
 
 pub returns-in_ok-power_end-in-Part : goal.returns-in_ok-power_end-in-Part
 unfolding body_end number_body_end body_decimals
-returns-in_ok-power_end-in-Part c = known body_end c.in-Part.is (told_some _ _ _ c.power_end.ensures c.in_ok-power_end-in-Part.was c.at_most_six.ensures)
+returns-in_ok-power_end-in-Part c = known body_end c.in-Part.is (told_some _ _ _ c.power_end.ensures c.in_ok-power_end-in-Part.was (omega arith))
 
 pub returns-in_err-power_end-in-Power : goal.returns-in_err-power_end-in-Power
 unfolding body_end number_body_end body_decimals

@@ -5,11 +5,11 @@ use Rattle.spells.proofs.numbers.cut.Goals as goal
 pub loop-k-init : goal.loop-k-init
 loop-k-init c = cutting_start c.args.n c.args.least c.requires
 
-pub returns-then-m-ne0 : goal.returns-then-m-ne0
-returns-then-m-ne0 c = (c.loop-k.invariant.most, cutting_kept c.loop-k.k c.loop-k.invariant c.loop-k-test.true c.if-m-ne0.true)
-
 pub loop-k-preserved : goal.loop-k-preserved
-loop-k-preserved c = cutting_more c.loop-k.k c.loop-k.invariant c.loop-k-test.true c.if-m-ne0.false
+loop-k-preserved c = cutting_more c.loop-k.k c.loop-k.invariant c.loop-k-test.true c.if-m-eq0.true
 
-pub returns : goal.returns
-returns c = (c.loop-k.invariant.most, cutting_end c.loop-k.invariant c.loop-k-test.false)
+pub returns-else-m-eq0 : goal.returns-else-m-eq0
+returns-else-m-eq0 c = (c.loop-k.invariant.most, cutting_kept c.loop-k.k c.loop-k.invariant c.loop-k-test.true c.if-m-eq0.false)
+
+pub returns-after-loop-k : goal.returns-after-loop-k
+returns-after-loop-k c = (c.loop-k.invariant.most, cutting_end c.loop-k.invariant c.loop-k-test.false)
