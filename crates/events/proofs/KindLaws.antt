@@ -7,7 +7,6 @@ use native.Mathlib.Omega.{arith}
 use lib.ListN.{length}
 use lib.Dec.{eqb, leb}
 use borrow.Author.Tests.{leb-true, eqb-true, eqb-false, ne_eqb}
-use Rattle.exact.specs.Chain.{clash}
 use Rattle.table.specs.Table.{Entry, table, rows_in, rows_of}
 
 -- how many kinds there are
@@ -34,6 +33,9 @@ listed_same f g (suc n) k e h = go (eqb k n) refl (λ i. listed_same f g n k (ap
     go : (z : Bool) → eqb k n ≡ z → (k < n → f k ≡ g k) → f k ≡ g k
     go true q r = subst (λ (m : ℕ). f m ≡ g m) (sym (eqb-true k n q)) (ap (first_of (f n)) e)
     go false q r = r (let z = eqb-false k n q in omega arith)
+
+clash : {A : Type 0} → true ≡ false → A
+clash e = absurd cc
 
 both : (a b : Bool) → a && b ≡ true → (a ≡ true) × (b ≡ true)
 both true b e = (refl, e)
