@@ -7,7 +7,6 @@ use Prim.Native.Nat.{ℕ, zero, suc, ◌+◌, ◌-◌, ◌≤◌, ◌<◌}
 use native.Mathlib.Omega.{arith}
 use lib.ListN.{length, take, drop, get_or}
 use lib.Dec.{eqb}
-use Rattle.exact.specs.Chain.{clash}
 use Rattle.std.specs.Prelude.{Option, None, Some, Err}
 use Rattle.refusals.specs.Numbers.{number_of}
 use Rattle.refusals.specs.declared.Refusal.{Refusal}
@@ -38,6 +37,9 @@ use Rattle.decides.specs.Deciding.{value_in, ruled_by, first_refused, decided_by
 use Rattle.decides.specs.Ruled.{Stands, Rules}
 use Rattle.decides.specs.declared.Ruling.{Ruling}
 use Rattle.decides.specs.declared.Decision.{Decision}
+
+clash : {A : Type 0} → true ≡ false → A
+clash e = absurd cc
 
 -- a child has no value
 child_value : (F : CodedForm) (w : Option Span) → is_child F ≡ true → value_in (form_of F) w ≡ None
