@@ -39,35 +39,38 @@ at start raw = Some (record { start = start; len = length raw })
 by_place : {raw : Bytes} {start n : ℕ} {p : Cell} (t : Form) → ((x : Result) → kept_of t (at start raw) x ≡ a_words (at start raw)) → Judges refusal_in t raw n → p ≡ cell_as (words_cell (at start raw)) → (l : List Item) → Loose raw l → record { refusal = n; there = p.there; a = p.a; b = p.b } ≡ tried_as t (at start raw) (judged t (read_value l))
 by_place {raw} {start} {n} t k j q l x = ap (λ (p : Cell). record { refusal = n; there = p.there; a = p.a; b = p.b }) q ∙ ap (λ (n : ℕ). as_cell n (words_cell (at start raw))) (j.says l x) ∙ ap (λ (f : Field). as_cell (refusal_in (judged t (read_value l))) (cell_of f)) (sym (k (judged t (read_value l))))
 
-module _ {raw : Bytes} {start : ℕ} {r : Verdict} {F : CodedForm} where
-  so : (G : CodedForm) → F ≡ G → ((l : List Item) → Loose raw l → r ≡ tried_as (form_of G) (at start raw) (judged (form_of G) (read_value l))) → RowJudges (form_of F) raw start r
-  so G e f = subst (λ (F : CodedForm). RowJudges (form_of F) raw start r) (sym e) (record { says = f })
+module _ {raw : Bytes} {start : ℕ} {F : CodedForm} where
+  so : {r : Verdict} (G : CodedForm) → F ≡ G → ((l : List Item) → Loose raw l → r ≡ tried_as (form_of G) (at start raw) (judged (form_of G) (read_value l))) → RowJudges (form_of F) raw start r
+  so {r} G e f = subst (λ (F : CodedForm). RowJudges (form_of F) raw start r) (sym e) (record { says = f })
 
-  pub text_arm : {m n : ℕ} → F ≡ Text m → Judges refusal_in (words m) raw n → r ≡ as_cell n (words_cell (at start raw)) → RowJudges (form_of F) raw start r
+  -- those that are told by their place
+  pub text_arm : {p : Cell} {m n : ℕ} → F ≡ Text m → p ≡ cell_as (words_cell (at start raw)) → Judges refusal_in (words m) raw n → RowJudges (form_of F) raw start (record { refusal = n; there = p.there; a = p.a; b = p.b })
   unfolding kept_of
-  text_arm {m} e j q = so (Text m) e (by_place (words m) (λ x. refl) j q)
+  text_arm {m = m} e q j = so (Text m) e (by_place (words m) (λ x. refl) j q)
 
-  pub some_arm : {m n : ℕ} → F ≡ SomeText m → Judges refusal_in (some_words m) raw n → r ≡ as_cell n (words_cell (at start raw)) → RowJudges (form_of F) raw start r
+  pub some_arm : {p : Cell} {m n : ℕ} → F ≡ SomeText m → p ≡ cell_as (words_cell (at start raw)) → Judges refusal_in (some_words m) raw n → RowJudges (form_of F) raw start (record { refusal = n; there = p.there; a = p.a; b = p.b })
   unfolding kept_of
-  some_arm {m} e j q = so (SomeText m) e (by_place (some_words m) (λ x. refl) j q)
+  some_arm {m = m} e q j = so (SomeText m) e (by_place (some_words m) (λ x. refl) j q)
 
-  pub int_arm : {lo hi : ℕ} → F ≡ Int lo hi → Judges int_of (whole lo hi) raw r → RowJudges (form_of F) raw start r
+  pub id_arm : {p : Cell} {n : ℕ} → F ≡ Guid → p ≡ cell_as (words_cell (at start raw)) → Judges refusal_in guid raw n → RowJudges (form_of F) raw start (record { refusal = n; there = p.there; a = p.a; b = p.b })
   unfolding kept_of
-  int_arm {lo} {hi} e j = so (Int lo hi) e j.says
+  id_arm e q j = so Guid e (by_place guid (λ x. refl) j q)
 
-  pub id_arm : {n : ℕ} → F ≡ Guid → Judges refusal_in guid raw n → r ≡ as_cell n (words_cell (at start raw)) → RowJudges (form_of F) raw start r
+  pub version_arm : {p : Cell} {n : ℕ} → F ≡ Version → p ≡ cell_as (words_cell (at start raw)) → Judges refusal_in version raw n → RowJudges (form_of F) raw start (record { refusal = n; there = p.there; a = p.a; b = p.b })
   unfolding kept_of
-  id_arm e j q = so Guid e (by_place guid (λ x. refl) j q)
+  version_arm e q j = so Version e (by_place version (λ x. refl) j q)
 
-  pub version_arm : {n : ℕ} → F ≡ Version → Judges refusal_in version raw n → r ≡ as_cell n (words_cell (at start raw)) → RowJudges (form_of F) raw start r
+  -- those that are told by their worth
+  pub int_arm : {r v : Verdict} {lo hi : ℕ} → r ≡ v → F ≡ Int lo hi → Judges int_of (whole lo hi) raw v → RowJudges (form_of F) raw start r
   unfolding kept_of
-  version_arm e j q = so Version e (by_place version (λ x. refl) j q)
+  int_arm {lo = lo} {hi = hi} q e j = so (Int lo hi) e (λ l x. q ∙ j.says l x)
 
-  pub size_arm : F ≡ Positive → Judges size_of positive raw r → RowJudges (form_of F) raw start r
+  pub size_arm : {r v : Verdict} → r ≡ v → F ≡ Positive → Judges size_of positive raw v → RowJudges (form_of F) raw start r
   unfolding kept_of
-  size_arm e j = so Positive e j.says
+  size_arm q e j = so Positive e (λ l x. q ∙ j.says l x)
 
-  pub child_arm : F ≡ Features → r ≡ int_of (refused 6) → RowJudges (form_of F) raw start r
+  -- a child has no value
+  pub child_arm : {r : Verdict} → F ≡ Features → r ≡ int_of (refused 6) → RowJudges (form_of F) raw start r
   unfolding kept_of judged
   child_arm e q = so Features e (λ l x. q)
 
@@ -104,41 +107,11 @@ pub tried_given : (t : Form) (n : Bytes) (d : Need) (o : Bool) (x : Tree) → d 
 unfolding tried
 tried_given t n d o x e p = ap (λ (d : Need). by_need d (sought t n x)) e ∙ by_flag o (sought t n x) ∙ sought_given t n o x p
 
-module _ {raw : Bytes} {start : ℕ} {F : CodedForm} where
-  so : {r : Verdict} (G : CodedForm) → F ≡ G → ((l : List Item) → Loose raw l → r ≡ tried_as (form_of G) (at start raw) (judged (form_of G) (read_value l))) → RowJudges (form_of F) raw start r
-  so {r} G e f = subst (λ (F : CodedForm). RowJudges (form_of F) raw start r) (sym e) (record { says = f })
+by_flag_of : (d : CodedNeed) → need_of d ≡ cond (may_miss d) optional required
+by_flag_of Required = refl
+by_flag_of Optional = refl
 
-  -- those that are told by their place
-  pub text_arm : {p : Cell} {m n : ℕ} → F ≡ Text m → p ≡ cell_as (words_cell (at start raw)) → Judges refusal_in (words m) raw n → RowJudges (form_of F) raw start (record { refusal = n; there = p.there; a = p.a; b = p.b })
-  unfolding kept_of
-  text_arm {m = m} e q j = so (Text m) e (by_place (words m) (λ x. refl) j q)
-
-  pub some_arm : {p : Cell} {m n : ℕ} → F ≡ SomeText m → p ≡ cell_as (words_cell (at start raw)) → Judges refusal_in (some_words m) raw n → RowJudges (form_of F) raw start (record { refusal = n; there = p.there; a = p.a; b = p.b })
-  unfolding kept_of
-  some_arm {m = m} e q j = so (SomeText m) e (by_place (some_words m) (λ x. refl) j q)
-
-  pub id_arm : {p : Cell} {n : ℕ} → F ≡ Guid → p ≡ cell_as (words_cell (at start raw)) → Judges refusal_in guid raw n → RowJudges (form_of F) raw start (record { refusal = n; there = p.there; a = p.a; b = p.b })
-  unfolding kept_of
-  id_arm e q j = so Guid e (by_place guid (λ x. refl) j q)
-
-  pub version_arm : {p : Cell} {n : ℕ} → F ≡ Version → p ≡ cell_as (words_cell (at start raw)) → Judges refusal_in version raw n → RowJudges (form_of F) raw start (record { refusal = n; there = p.there; a = p.a; b = p.b })
-  unfolding kept_of
-  version_arm e q j = so Version e (by_place version (λ x. refl) j q)
-
-  -- those that are told by their worth
-  pub int_arm : {r v : Verdict} {lo hi : ℕ} → r ≡ v → F ≡ Int lo hi → Judges int_of (whole lo hi) raw v → RowJudges (form_of F) raw start r
-  unfolding kept_of
-  int_arm {lo = lo} {hi = hi} q e j = so (Int lo hi) e (λ l x. q ∙ j.says l x)
-
-  pub size_arm : {r v : Verdict} → r ≡ v → F ≡ Positive → Judges size_of positive raw v → RowJudges (form_of F) raw start r
-  unfolding kept_of
-  size_arm q e j = so Positive e (λ l x. q ∙ j.says l x)
-
-  -- a child has no value
-  pub child_arm : {r : Verdict} → F ≡ Features → r ≡ int_of (refused 6) → RowJudges (form_of F) raw start r
-  unfolding kept_of judged
-  child_arm e q = so Features e (λ l x. q)
-
+absent_row : (t : Form) (o : Bool) → plain t ≡ true → tried_as t None (without o) ≡ lacking o
 unfolding kept_of
 absent_row (words k) o p = refl
 absent_row (some_words k) o p = refl
