@@ -132,6 +132,7 @@ fn moves(rt: &impl Print, s: &[u8], v: &[u8]) {
 /// The call that a line asks for.
 pub fn ask(rt: &impl Print, s: &[u8], v: &[u8]) {
     let letter = byte(s, 0);
+    // A letter is matched to its call: a table of functions would hold the same letters, and hide which call each is.
     match letter {
         b'c' => check(rt, v),
         b'f' => feed(rt, v),

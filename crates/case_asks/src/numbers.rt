@@ -17,6 +17,7 @@ fn whole(rt: &impl Print, r: Option<Int>) {
     put(rt, b"\n");
 }
 
+// A match from a class to its word: a `Display` would hold the same match.
 fn class(rt: &impl Print, of: RouteClass) {
     match of {
         RouteClass::Undefined => put(rt, b"undefined\n"),
@@ -74,6 +75,7 @@ fn in_two(rt: &impl Print, v: &[u8], cut: usize) {
 
 /// `int`, `number`, `guid`, `version`, `Route`, and `two CUT`: an Int whose first bytes stand apart.
 pub fn worth(rt: &impl Print, letter: u8, v: &[u8], cut: usize) {
+    // A letter is matched to its call: a table of functions would hold the same letters, and hide which call each is.
     match letter {
         b'i' => whole(rt, numerals::int_of(v)),
         b'n' => decimal(rt, numerals::number_of(v)),

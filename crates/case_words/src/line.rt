@@ -119,6 +119,7 @@ fn fill(out: &mut [u8], len: usize, count: u64, b: u8) -> usize {
 pub fn bytes(s: &[u8], out: &mut [u8]) -> usize {
     let mut at: usize = 0;
     let mut len: usize = 0;
+    // By hand: the next place is what was read there.
     while at < s.len() {
         if 1000000 < at {
             return len;

@@ -18,6 +18,7 @@ pub fn small(rt: &impl Print, word: &[u8], n: u8) {
     told(rt, word, u64::from(n));
 }
 
+// A match from a number to its word: a `Display` would hold the same match, and the number stays one.
 fn side(rt: &impl Print, n: u8) {
     match n {
         Side::UPSTREAM => put(rt, b"U "),
@@ -29,6 +30,7 @@ fn side(rt: &impl Print, n: u8) {
     }
 }
 
+// A match from a number to its word: a `Display` would hold the same match, and the number stays one.
 pub fn state(rt: &impl Print, n: u8) {
     match n {
         State::NOT_CONNECTED => put(rt, b"NotConnected"),

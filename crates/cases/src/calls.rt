@@ -191,6 +191,7 @@ fn step(rt: &impl Print, l: Lanes, s: &[u8], at: usize, v: &[u8], wire: &mut [u8
     let n = decimal(s, at + 2);
     let room = n.value as usize;
     let sent = l.sent;
+    // A letter is matched to its call: a table of functions would hold the same letters, and hide which call each is.
     match byte(s, 0) {
         b's' => send(rt, lane, message(s, n.next + 1), v, wire, room),
         b'a' => After {

@@ -42,6 +42,7 @@ fn call(rt: &impl Print, l: Lanes, s: &[u8], v: &[u8], len: usize, wire: &mut [u
     if v.len() < len {
         return l;
     }
+    // A letter is matched to its call: a table of functions would hold the same letters, and hide which call each is.
     match line::byte(s, 0) {
         b'a' | b'l' | b'p' | b'r' | b's' => calls::play(rt, l, s, &v[..len], wire),
         _ => {
@@ -70,6 +71,7 @@ fn case(rt: &impl Print, l: Lanes, s: &[u8], out: &mut [u8], wire: &mut [u8]) ->
 fn run(rt: &impl Print, text: &[u8], out: &mut [u8], wire: &mut [u8]) {
     let mut lanes = calls::start();
     let mut at: usize = 0;
+    // By hand: the next place is what was read there.
     while at < text.len() {
         let end = line::find(text, at, b'\n');
         lanes = case(rt, lanes, &text[at..end], &mut *out, &mut *wire);
@@ -85,6 +87,7 @@ fn read_full<R: Read>(input: &mut R, buffer: &mut [u8]) -> usize
     ensures { result ≤ length buffer.new }
 {
     let mut done: usize = 0;
+    // By hand: a read fills as much of the buffer as it likes.
     while done < buffer.len() {
         let n = match input.read(&mut buffer[done..]) {
             Ok(n) => n,

@@ -12,6 +12,7 @@ pub fn text_len(raw: &[u8]) -> Option<usize>
 {
     let mut i = 0;
     let mut n: usize = 0;
+    // By hand: the next place is what was read there.
     while i < raw.len() {
         let c = unit(raw, i)?;
         n += utf8_len(c.code_point);
@@ -38,6 +39,7 @@ pub fn decode(raw: &[u8], out: &mut [u8]) -> Option<usize>
 {
     let mut i = 0;
     let mut n: usize = 0;
+    // By hand: the next place is what was read there.
     while i < raw.len() {
         let c = unit(raw, i)?;
         let next = n + utf8_len(c.code_point);

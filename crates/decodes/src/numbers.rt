@@ -30,6 +30,7 @@ fn walked(raw: &[u8]) -> Option<Scan>
 {
     let mut s = Scan::start();
     let mut i = 0;
+    // By hand: the next place is what was read there.
     while i < raw.len() {
         let c = unit(raw, i)?;
         s = char_step(s, c.code_point);

@@ -40,6 +40,7 @@ fn marks(s: &[u8], at: usize) -> Step
     ensures { Got 1 s.now at result (marks_p (drop at s.now)) }
 {
     let mut i = at;
+    // By hand: the next place is what was read there.
     while i < s.len() {
         let j = run(s, i, b'-');
         if s.len() <= j {

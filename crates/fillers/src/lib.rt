@@ -34,6 +34,7 @@ pub fn bits(s: &[u8], at: usize, below: bool) -> Step
     ensures { GotFiller (site_of below) s.now at result }
 {
     let mut i = at;
+    // By hand: the next place is what was read there.
     loop {
         let j = gap(s, i, below)?;
         if s.len() - j < 2 {

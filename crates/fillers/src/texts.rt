@@ -36,6 +36,7 @@ pub fn text(s: &[u8], at: usize) -> Step
 {
     let mut i = at;
     let mut n = 0;
+    // By hand: the next place is what was read there.
     while i < s.len() {
         let j = clear(s, i, n);
         if s.len() <= j {

@@ -31,6 +31,7 @@ pub struct Event {
 }
 
 /// What a message did: a refusal number (0: accepted), the lane after it, and the belt order.
+// The refusal is a number, since `moves::ended` answers to every one, and C is told it.
 #[derive(Clone, Copy)]
 pub struct Moved {
     pub refusal: u8,

@@ -1,5 +1,7 @@
 // The numbers that stand for document 01's words. specs/Names.antt has the same ones.
 
+// Numbers, no enums: receiving, sending and the calls for C answer to every number, and a type would leave some out.
+
 /// Sides of a handover: ours, and a message's sender.
 #[derive(Clone, Copy)]
 pub struct Side;

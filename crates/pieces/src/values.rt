@@ -85,6 +85,7 @@ pub fn value(s: &[u8], at: usize, q: u8) -> Step
     ensures { Got 1 s.now at result (value_p q (drop at s.now)) }
 {
     let mut i = at;
+    // By hand: the next place is what was read there.
     while i < s.len() {
         let j = passed(s, i, q);
         if s.len() <= j {

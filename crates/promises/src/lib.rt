@@ -6,6 +6,7 @@ use message::Message;
 
 /// What receiving answers: the refusal; the lane after it and the belt order; how many bytes of the input are used, how many of the buffer
 /// are written; the place of a malformed byte; and an accepted message.
+// The refusal is a number, as C is told it.
 #[derive(Clone, Copy)]
 pub struct Received {
     pub refusal: u8,
@@ -18,6 +19,7 @@ pub struct Received {
 }
 
 /// The same, but for what the message says: its kind and its BoardId.
+// The refusal is a number, as C is told it.
 #[derive(Clone, Copy)]
 pub struct Receipt {
     pub refusal: u8,
@@ -31,6 +33,7 @@ pub struct Receipt {
 }
 
 /// What sending answers: the refusal; the lane after it and the belt order; and how many bytes of the buffer are written.
+// The refusal is a number, as C is told it.
 #[derive(Clone, Copy)]
 pub struct Sent {
     pub refusal: u8,

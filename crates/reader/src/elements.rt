@@ -56,6 +56,7 @@ pub fn content(s: &[u8], at: usize, left: usize, name: &[u8]) -> Step
     ensures { Got 1 s.now at result (content_p left name.now (drop at s.now)) }
 {
     let mut i = at;
+    // By hand: the next place is what was read there.
     loop {
         let j = fillers::filler_lt(s, i, true)?;
         if s.len() <= j {

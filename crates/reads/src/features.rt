@@ -16,6 +16,7 @@ pub fn first_child(s: &[u8], inside: usize, name: &[u8]) -> Option<usize>
         return None;
     }
     let mut at = inside;
+    // By hand: the next place is what was read there.
     loop {
         let child = reader::child(s, at)?;
         let outline = child.outline;

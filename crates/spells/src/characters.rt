@@ -34,6 +34,7 @@ fn ascii_eights(v: &[u8], at: usize) -> usize
     ensures { Passes v.now at result }
 {
     let mut i = at;
+    // Counted by hand: the answer is how far the steps of eight came, which a `for` over them does not hand out.
     while 8 <= v.len() - i {
         if !eight_clear(v, i, b'<') {
             return i;
@@ -48,6 +49,7 @@ pub fn is_text(v: &[u8]) -> bool
     ensures { TextSays v.now result }
 {
     let mut i = 0;
+    // By hand: the next place is what was read there.
     while i < v.len() {
         let j = ascii_eights(v, i);
         if v.len() <= j {

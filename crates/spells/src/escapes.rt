@@ -36,6 +36,7 @@ fn stay_eights(text: &[u8], at: usize) -> usize
     ensures { Kept text.now at result }
 {
     let mut i = at;
+    // Counted by hand: the answer is how far the steps of eight came, which a `for` over them does not hand out.
     while 8 <= text.len() - i {
         if !eight_stay(text, i) {
             return i;
@@ -82,6 +83,7 @@ pub fn put_escaped(out: &mut [u8], at: usize, text: &[u8]) -> usize
 {
     let mut i = 0;
     let mut next = at;
+    // By hand: the next place is what was read there.
     while i < text.len() {
         let j = stay_run(text, i);
         let mid = put(out, next, &text[i..j]);

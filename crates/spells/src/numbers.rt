@@ -27,6 +27,7 @@ fn cut(n: u64, least: u64) -> Part
 {
     let mut k = PLACES;
     let mut m = n;
+    // By hand: it ends by what is left of the number as well as by a count.
     while least < k && m % 10 == 0 {
         m /= 10;
         k -= 1;

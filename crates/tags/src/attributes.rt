@@ -16,6 +16,7 @@ use scan::{Step, Stop};
 pub const PLACES: usize = 4 * Limits::ATTRIBUTES;
 
 /// Where the attributes of a tag stand, counted from the place behind the tag's name: from where to where its name, and its raw value.
+// Numbers, no structs: `reader::outline` is lent them by its callers, and `table_only` speaks of numbers.
 pub type Places = [u16; PLACES];
 
 /// A tag behind its name: whether it is an empty one, how many attributes it has, and where it ends.
@@ -58,6 +59,7 @@ fn again(s: &[u8], first: usize, at: usize, to: usize) -> bool
     ensures { Repeats s.now first at to result }
 {
     let mut i = first;
+    // By hand: the next place is what was read there.
     loop {
         let j = scan::skip_glue(s, i);
         if at <= j {
@@ -172,6 +174,7 @@ fn letter_eights(s: &[u8], at: usize, stop: usize) -> usize
     ensures { Part s.now at result × (result ≤ stop) }
 {
     let mut i = at + 1;
+    // Counted by hand: the answer is how far the steps of eight came, which a `for` over them does not hand out.
     while 8 <= stop - i {
         if !eight_letters(s, i) {
             return i;
@@ -326,6 +329,7 @@ pub fn head(s: &[u8], at: usize, may: bool, table: &mut [u16]) -> Result<Tag, St
     let mut marks = [0u8; 64];
     let mut n = 0;
     let mut i = at;
+    // By hand: the next place is what was read there.
     loop {
         let j = scan::glue(s, i)?;
         if !goes_on(s[j], j - i, n) {

@@ -8,6 +8,7 @@ use std::io::Read;
 
 /// `base` bytes of the input stand before it. `last`: nothing was read behind it, since the input ends there, or since reading `failed`. `dry`: no
 /// message ends in it, so more is to be read.
+// Places in a buffer, no Vec: the memory is fixed.
 #[derive(Clone, Copy)]
 pub struct Window {
     pub base: u64,
