@@ -7,6 +7,9 @@ ghost use Rattle.reads.specs.Whole.{OutlineIn, OutlineSorts};
 use lane::Kind;
 use reader::answer::{Sketch, Unread};
 use rows::kind_named;
+use rows::names::{
+    FEATURE_BOARD_FORECAST, FEATURE_QUERY_BOARD_INFO, FEATURE_SEND_BOARD_INFO, SUPPORTED_FEATURES,
+};
 
 /// The first child of that name in the content behind a start tag, told by the place behind its own start tag; a place is 0 for an empty tag.
 pub fn first_child(s: &[u8], inside: usize, name: &[u8]) -> Option<usize>
@@ -31,9 +34,9 @@ pub fn first_child(s: &[u8], inside: usize, name: &[u8]) -> Option<usize>
 fn noted(s: &[u8], inside: usize) -> u64
     ensures { NotesIn s.now inside result }
 {
-    let forecast = first_child(s, inside, b"FeatureBoardForecast");
-    let query = first_child(s, inside, b"FeatureQueryBoardInfo");
-    let send = first_child(s, inside, b"FeatureSendBoardInfo");
+    let forecast = first_child(s, inside, FEATURE_BOARD_FORECAST);
+    let query = first_child(s, inside, FEATURE_QUERY_BOARD_INFO);
+    let send = first_child(s, inside, FEATURE_SEND_BOARD_INFO);
     forecast.is_some() as u64 + 2 * (query.is_some() as u64) + 4 * (send.is_some() as u64)
 }
 
@@ -41,7 +44,7 @@ fn noted(s: &[u8], inside: usize) -> u64
 fn supported(s: &[u8], inside: usize) -> Option<u64>
     ensures { Supports s.now inside result }
 {
-    let child = first_child(s, inside, b"SupportedFeatures")?;
+    let child = first_child(s, inside, SUPPORTED_FEATURES)?;
     Some(noted(s, child))
 }
 

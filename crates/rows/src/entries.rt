@@ -2,6 +2,7 @@
 use crate::data::Form::{Features, Guid, Int, Positive, SomeText, Text, Version};
 use crate::data::Need::{Optional, Required};
 use crate::data::{Entry, Row};
+use crate::names;
 
 const MACHINE_ID: Row = Row {
     name: b"MachineId",
@@ -25,7 +26,7 @@ const VERSION: Row = Row {
 };
 
 const SUPPORTED_FEATURES: Row = Row {
-    name: b"SupportedFeatures",
+    name: names::SUPPORTED_FEATURES,
     form: Features,
     need: Required,
 };

@@ -5,5 +5,6 @@
 pub mod data;
 mod entries;
 mod kind;
+pub mod names;
 
 pub use kind::kind_named;

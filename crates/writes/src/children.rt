@@ -10,6 +10,7 @@ use crate::marks::{put_empty, put_end, put_start};
 use cells::{Cell, cell_of};
 use printing::put_byte;
 use rows::data::Row;
+use rows::names::{FEATURE_BOARD_FORECAST, FEATURE_QUERY_BOARD_INFO, FEATURE_SEND_BOARD_INFO};
 
 // An empty tag of that name, if it is there.
 fn put_flag(out: &mut [u8], at: usize, there: u64, name: &[u8]) -> usize
@@ -35,9 +36,9 @@ fn put_features(out: &mut [u8], at: usize, name: &[u8], bits: u64) -> usize
         return put_empty(out, at);
     }
     let a = put_byte(out, at, b'>');
-    let b = put_flag(out, a, forecast, b"FeatureBoardForecast");
-    let c = put_flag(out, b, query, b"FeatureQueryBoardInfo");
-    let d = put_flag(out, c, send, b"FeatureSendBoardInfo");
+    let b = put_flag(out, a, forecast, FEATURE_BOARD_FORECAST);
+    let c = put_flag(out, b, query, FEATURE_QUERY_BOARD_INFO);
+    let d = put_flag(out, c, send, FEATURE_SEND_BOARD_INFO);
     put_end(out, d, name)
 }
 
