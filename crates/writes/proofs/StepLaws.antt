@@ -93,12 +93,12 @@ not_zero NoRoom e = absurd (omega arith)
 not_zero MayNotBeSent e = absurd (omega arith)
 not_zero ProtocolError e = absurd (omega arith)
 
-pub decides : (r : Refusal) (x : ℕ) → first (number_of r) x ≡ number_of r
-decides r x = go (number_of r) (not_zero r)
-  where
-    go : (n : ℕ) → (n ≡ 0 → ⊥) → first n x ≡ n
-    go zero n = absurd (n refl)
-    go (suc n) k = refl
+pub decides : (r x : ℕ) → (r ≡ 0 → ⊥) → first r x ≡ r
+decides zero x n = absurd (n refl)
+decides (suc r) x n = refl
+
+pub refusal_decides : (r : Refusal) (x : ℕ) → first (number_of r) x ≡ number_of r
+refusal_decides r x = decides (number_of r) x (not_zero r)
 
 -- some of it is put down, the rest is left
 pub record Going (old : Bytes) (at : ℕ) (total rest new : Bytes) (r : ℕ) : Type 0 where
