@@ -92,12 +92,26 @@ module _ (w : ℕ) where
       ∙ sym (take-append-add (take n b) (replicate w 0) (w - n))
       ∙ ap (λ (m : ℕ). take m (take n b ++ replicate w 0)) e
 
-  -- and what stands behind
+  -- one more byte, and what stands behind
+  long_more : (n : ℕ) (b : List ℕ) → n < w → set (long w n b) n (get_or b n 0) ≡ long w (n + 1) b
+  long_more n b h = long_is (n + 1) b (set (long w n b) n (get_or b n 0)) (length-set (long w n b) n (get_or b n 0) ∙ long_length n b) (λ i k l. go i k l (eqb i n) refl) (λ i k l. get_or-set_other (long w n b) n i (get_or b n 0) 0 (λ e. omega arith) ∙ long_out n b i k (omega arith))
+    where
+      go : (i : ℕ) → i < w → i < n + 1 → (z : Bool) → eqb i n ≡ z → get_or (set (long w n b) n (get_or b n 0)) i 0 ≡ get_or b i 0
+      go i k l true e =
+          let q = eqb-true i n e in
+          rw q (get_or-set_same (long w n b) n (get_or b n 0) 0 (omega (arith, long_length n b)))
+      go i k l false e =
+          let q = eqb-false i n e in
+          get_or-set_other (long w n b) n i (get_or b n 0) 0 q ∙ long_in n b i k (omega arith)
+
   long_behind : (n : ℕ) (b : List ℕ) → n ≤ w → drop n (long w n b) ≡ replicate (w - n) 0
   long_behind n b h = ext_get_or 0 (drop n (long w n b)) (replicate (w - n) 0) (omega (arith, length-drop n (long w n b), long_length n b, length-replicate {A = ℕ} (w - n) 0)) (λ i k. at i (omega (arith, length-drop n (long w n b), long_length n b)))
     where
       at : (i : ℕ) → i < w - n → get_or (drop n (long w n b)) i 0 ≡ get_or (replicate (w - n) 0) i 0
       at i k = get_or-drop n (long w n b) i 0 ∙ long_out n b (n + i) (omega arith) (omega arith) ∙ sym (get_or-replicate (w - n) i 0 0 k)
+
+pub padded_more : (n : ℕ) (b : List ℕ) → n < 80 → set (padded n b) n (get_or b n 0) ≡ padded (n + 1) b
+padded_more = long_more 80
 
 -- What `righted` is, by the length.
 pub righted_in : (f : Forecast) → f.length ≤ 80 → record { length = f.length; bytes = padded f.length f.bytes } ≡ righted f

@@ -20,6 +20,13 @@ use Rattle.scan.specs.declared.Stop.TheVariants.{Open, Bad}
 use Rattle.pieces.specs.Says.{Piece, got, Known, PieceCase, Says}
 use Rattle.pieces.specs.declared.Character.{Character}
 
+-- the answer is no Ok
+abbrev pub Fails : Piece → Type 0
+Fails r = (c e : ℕ) → r ≡ Ok (record { code_point = c; next = e }) → ⊥
+
+pub never : {A : Type 0} {c e : ℕ} → Fails (Ok (record { code_point = c; next = e })) → A
+never {A} {c} {e} f = absurd (f c e refl)
+
 -- an answer that is known
 pub known : {A : Type 0} {f : A → ℕ} {k : ℕ} {s : Bytes} {at : ℕ} {r : Piece} {o : Out A} {c : Character} → r ≡ Ok c → Says f k s at r o → Known f k s at c.code_point c.next o
 known {A} {f} {k} {s} {at} {r} {o} q g = subst (λ (r : Piece). PieceCase f k s at r o) q g.says

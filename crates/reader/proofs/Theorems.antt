@@ -82,6 +82,19 @@ next_same r r' a b = made a b
 same_child : {s : Bytes} {start end f t c i f' t' c' i' : ℕ} {old new new' : List ℕ} → Accepted s start end f t c i old new → Accepted s start end f' t' c' i' old new' → (f ≡ f') × (t ≡ t') × (c ≡ c') × (i ≡ i')
 same_child {start} p q = let e = one_layout p.laid q.laid in same_lines (ap (λ (l : Layout). start + length (lead l)) e) (ap child_of e) p.lines q.lines
 
+-- of an answer without a message the numbers are 0, and the table is scratch: nothing is said of it
+abbrev pub RestOf : Bytes → List ℕ → List ℕ → Answer → ℕ → ℕ → ℕ → ℕ → Type 0
+RestOf s old new (Ends start end) from to count inside = Accepted s start end from to count inside old new
+RestOf s old new (More start) from to count inside = (from ≡ 0) × (to ≡ 0) × (count ≡ 0) × (inside ≡ 0)
+RestOf s old new (Malformed start place) from to count inside = (from ≡ 0) × (to ≡ 0) × (count ≡ 0) × (inside ≡ 0)
+RestOf s old new (TooLong start) from to count inside = (from ≡ 0) × (to ≡ 0) × (count ≡ 0) × (inside ≡ 0)
+
+same_rest : (s : Bytes) (old new new' : List ℕ) (a : Answer) (f t c i f' t' c' i' : ℕ) → RestOf s old new a f t c i → RestOf s old new' a f' t' c' i' → (f ≡ f') × (t ≡ t') × (c ≡ c') × (i ≡ i')
+same_rest s old new new' (Ends start end) f t c i f' t' c' i' p q = same_child p q
+same_rest s old new new' (More start) f t c i f' t' c' i' p q = (p.0 ∙ sym q.0, p.1 ∙ sym q.1, p.2 ∙ sym q.2, p.3 ∙ sym q.3)
+same_rest s old new new' (Malformed start place) f t c i f' t' c' i' p q = (p.0 ∙ sym q.0, p.1 ∙ sym q.1, p.2 ∙ sym q.2, p.3 ∙ sym q.3)
+same_rest s old new new' (TooLong start) f t c i f' t' c' i' p q = (p.0 ∙ sym q.0, p.1 ∙ sym q.1, p.2 ∙ sym q.2, p.3 ∙ sym q.3)
+
 abbrev unread_answer : Unread → Answer
 unread_answer (Begun start) = More start
 unread_answer (Dead start place) = Malformed start place

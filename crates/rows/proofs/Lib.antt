@@ -1,3 +1,4 @@
+pub mod CountLaws
 pub mod EntryLaws
 pub mod RowLaws
 pub mod SameLaws

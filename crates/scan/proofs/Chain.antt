@@ -26,6 +26,13 @@ pub then_bad : {A B : Type 0} {o : Out A} {t : Bytes} (K : A → Bytes → Out B
 unfolding chained
 then_bad K e = ap (λ o. chained o K) e
 
+-- the answer is no Ok
+abbrev pub Fails : Step → Type 0
+Fails r = (e : ℕ) → r ≡ Ok e → ⊥
+
+pub never : {A : Type 0} {e : ℕ} → Fails (Ok e) → A
+never {A} {e} f = absurd (f e refl)
+
 -- the exit of a `?` returns what stopped: `rw (exits c.from_residual.ensures.1)` at `returns-in_err-..`
 pub exits : {T : Type 0} {r : Result T Stop} {x : Stop} → IsErrAnd r (λ y. y ≡ x) → r ≡ Err x
 exits {T} {r} {x} h = let (y, e, q) = err_from_is_err_and r h in e ∙ ap Err q
