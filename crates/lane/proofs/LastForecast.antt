@@ -38,7 +38,7 @@ abbrev spoken : Bool → Bool → Option Forecast → Saying
 spoken B A None = silent
 spoken B A (Some f) = pick B (readies (id_of f)) (pick A (forecasts (id_of f)) silent)
 
--- A message, by its tests: A, it is a forecast; B, a MachineReady.
+-- A message, by its tests: A, it is a forecast; B, a MachineReady; C, it carries an id.
 not_both : (k : ℕ) → both (eqb k BoardForecast) (eqb k MachineReady) ≡ false
 not_both k = go (eqb k BoardForecast) refl
   where
@@ -55,14 +55,17 @@ cleared_by h f p =
     picked true = none_id
     picked false = refl
 
-by_tests : (A B r : Bool) (h f : Forecast) → both A B ≡ false → righted h ≡ h
-    → id_of (pick A (pick r (righted f) h) (pick B (pick (same_forecast h (righted f)) no_forecast h) h))
-    ≡ keeps (id_of h) (pick B (readies (id_of f)) (pick (both A r) (forecasts (id_of f)) silent))
-by_tests true true r h f x p = clash x
-by_tests true false true h f x p = id_right f
-by_tests true false false h f x p = refl
-by_tests false true r h f x p = cleared_by h f p
-by_tests false false r h f x p = refl
+by_tests : (A B C r : Bool) (h f : Forecast) → both A B ≡ false → righted h ≡ h
+    → id_of (pick A (pick (both C r) (righted f) h) (pick B (pick (both C (same_forecast h (righted f))) no_forecast h) h))
+    ≡ keeps (id_of h) (pick C (pick B (readies (id_of f)) (pick (both A r) (forecasts (id_of f)) silent)) silent)
+by_tests true true C r h f x p = clash x
+by_tests true false true true h f x p = id_right f
+by_tests true false true false h f x p = refl
+by_tests true false false r h f x p = refl
+by_tests false true true r h f x p = cleared_by h f p
+by_tests false true false r h f x p = refl
+by_tests false false true r h f x p = refl
+by_tests false false false r h f x p = refl
 
 -- and by whether it carries an id
 by_id : (k : ℕ) (r : Bool) (h : Forecast) (o : Option Forecast) → righted h ≡ h
@@ -71,18 +74,19 @@ by_id k r h None p =
     ap id_of
     (ap (λ (f : Forecast). pick (eqb k BoardForecast) h f) (same_picked (eqb k MachineReady) h)
     ∙ same_picked (eqb k BoardForecast) h)
-by_id k r h (Some f) p = by_tests (eqb k BoardForecast) (eqb k MachineReady) r h f (not_both k) p
+by_id k r h (Some f) p = by_tests (eqb k BoardForecast) (eqb k MachineReady) true r h f (not_both k) p
 
 after_said : (r : Bool) (h : Forecast) (e : Event) → righted h ≡ h → id_of (forecast_after r h e) ≡ keeps (id_of h) (said r e)
 after_said r h e = by_id e.kind r h e.forecast
 
-none_by_tests : (k : ℕ) (r : Bool) (o : Option Forecast) → both (eqb k BoardForecast) r ≡ false → keeps [] (says r k o) ≡ []
-none_by_tests k r None h = refl
-none_by_tests k r (Some f) h = go (eqb k MachineReady)
-  where
-    go : (B : Bool) → keeps [] (pick B (readies (id_of f)) (pick (both (eqb k BoardForecast) r) (forecasts (id_of f)) silent)) ≡ []
-    go true = same_picked (same_id [] (id_of f)) []
-    go false = rw h
+none_by_tests : (A B C r : Bool) (x : List ℕ) → both A r ≡ false → keeps [] (pick C (pick B (readies x) (pick (both A r) (forecasts x) silent)) silent) ≡ []
+none_by_tests A true true r x h = same_picked (same_id [] x) []
+none_by_tests A false true r x h = rw h
+none_by_tests A B false r x h = refl
+
+none_by_id : (k : ℕ) (r : Bool) (o : Option Forecast) → both (eqb k BoardForecast) r ≡ false → keeps [] (says r k o) ≡ []
+none_by_id k r None h = refl
+none_by_id k r (Some f) h = none_by_tests (eqb k BoardForecast) (eqb k MachineReady) true r (id_of f) h
 
 -- What the chart says: a state with a forecast in use leads to another one, and a forecast passes in these states only.
 used_row : ℕ → ℕ → ℕ → ℕ → Bool
@@ -103,7 +107,7 @@ module _ (r : Bool) (n : ℕ) (l : Lane) (e : Event) (u : ℕ) (same : Bool) (q 
   none_unused : forecast_used n ≡ false → keeps (id_kept l) (said r e) ≡ []
   none_unused h =
       ap (λ (id : List ℕ). keeps id (said r e)) (none (forecast_used l.state) refl)
-      ∙ none_by_tests e.kind r e.forecast (no (eqb e.kind BoardForecast) refl)
+      ∙ none_by_id e.kind r e.forecast (no (eqb e.kind BoardForecast) refl)
     where
       none : (z : Bool) → forecast_used l.state ≡ z → pick z (id_of l.forecast) [] ≡ []
       none true w = clash (sym (stays_used l.state e.kind u r same n q w) ∙ h)

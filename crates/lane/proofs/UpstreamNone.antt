@@ -13,14 +13,19 @@ use Rattle.lane.specs.declared.Event.{Event}
 use Rattle.lane.specs.declared.Lane.{Lane}
 use Rattle.lane.specs.declared.ids.Forecast.{Forecast}
 
--- by the tests of a message (A: a forecast, B: a MachineReady), and by whether it carries an id
-by_tests : (A B r : Bool) (o : Option Forecast) → both A r ≡ false
+-- by the tests of a message (A: a forecast, B: a MachineReady, C: it carries an id, S: the same one)
+by_tests : (A B C S r : Bool) (f : Forecast) → both A r ≡ false
+    → pick A (pick (both C r) f no_forecast) (pick B (pick (both C S) no_forecast no_forecast) no_forecast) ≡ no_forecast
+by_tests true B C S true f h = clash h
+by_tests true B true S false f h = refl
+by_tests true B false S false f h = refl
+by_tests false B C S r f h = rw (same_picked (both C S) no_forecast) (same_picked B no_forecast)
+
+-- and by whether it carries an id
+by_id : (A B r : Bool) (o : Option Forecast) → both A r ≡ false
     → pick A (replaced r no_forecast o) (pick B (cleared no_forecast o) no_forecast) ≡ no_forecast
-by_tests true B true o h = clash h
-by_tests true B false None h = refl
-by_tests true B false (Some f) h = refl
-by_tests false B r None h = same_picked B no_forecast
-by_tests false B r (Some f) h = rw (same_picked (same_forecast no_forecast (righted f)) no_forecast) (same_picked B no_forecast)
+by_id A B r None h = by_tests A B false false r no_forecast h
+by_id A B r (Some f) h = by_tests A B true (same_forecast no_forecast (righted f)) r (righted f) h
 
 -- an upstream lane that keeps none
 pub record Bare (l : Lane) : Type 0 where
@@ -35,7 +40,7 @@ module _ (l : Lane) (bare : Bare l) where
   stays_none r n e h =
       ap (λ (f : Forecast). pick (forecast_used n) (forecast_after r f e) no_forecast) held_none
       ∙ ap (λ (f : Forecast). pick (forecast_used n) f no_forecast)
-      (by_tests (eqb e.kind BoardForecast) (eqb e.kind MachineReady) r e.forecast h)
+      (by_id (eqb e.kind BoardForecast) (eqb e.kind MachineReady) r e.forecast h)
       ∙ same_picked (forecast_used n) no_forecast
 
   not_taken : (e : Event) (n : ℕ) → step_in l e ≡ Some n → both (eqb e.kind BoardForecast) Received ≡ false
