@@ -31,13 +31,13 @@ listed_same f g (suc n) k e h = go (eqb k n) refl (λ i. listed_same f g n k (ap
     go false q r = r (let z = eqb-false k n q in omega arith)
 
 -- the rows of all kinds in order
-abbrev pub all_of : List Entry → List Row
-all_of [] = []
-all_of (e ∷ entries) = e.rows ++ all_of entries
+abbrev pub all_rows : List Entry → List Row
+all_rows [] = []
+all_rows (e ∷ entries) = e.rows ++ all_rows entries
 
 -- how many rows there are
 abbrev pub ROWS : ℕ
-ROWS = length (all_of table)
+ROWS = length (all_rows table)
 
 -- there are few
 pub few_rows : ROWS ≤ 255
