@@ -1,7 +1,7 @@
 -- Bytes compared where they stand.
 use mathlib.Core.Path.{◌≡◌, refl, sym, ap, subst, ◌∙◌}
 use mathlib.Core.List.{[], ◌∷◌}
-use mathlib.Core.Bool.{Bool, true, false, ◌&&◌, not}
+use mathlib.Core.Bool.{Bool, true, false, ◌&&◌, not, true≢false}
 use Prim.Native.Nat.{ℕ, zero, suc, ◌+◌, ◌-◌, ◌≤◌, ◌<◌}
 use native.Mathlib.Omega.{arith}
 use lib.ListN.{length, take, drop, get_or, length-take, length-drop}
@@ -9,12 +9,13 @@ use native.Mathlib.Nat.{add-zero}
 use lib.Seq.{get_or-take, get_or-drop}
 use lib.Dec.{eqb, leb}
 use lib.Pointwise.{pointwise}
-use borrow.Author.Tests.{leb-true, leb-false}
+use borrow.Author.Tests.{leb-true, leb-false, eq-eqb}
 use Rattle.model.specs.Tests.{and_left, and_right, and_false, same_true}
 use Rattle.grammar.specs.Bytes.{Bytes, every, same}
 use Rattle.std.specs.Prelude.{Option, Some, None}
 use Rattle.std.specs.Option.{MatchOption}
-use Rattle.std.specs.List.{AllWithin, HoldsAt}
+use Rattle.std.specs.List.{AllWithin, HoldsAt, list_any}
+use Rattle.std.proofs.lemmas.List.Folds.{list_any_at}
 use Rattle.tags.specs.Names.{Lacks, Found}
 
 pub part_long : (s : Bytes) (a n : ℕ) → a + n ≤ length s → length (take n (drop a s)) ≡ n
@@ -81,6 +82,14 @@ module _ (q : ℕ) (s : Bytes) (at stop : ℕ) (h : at ≤ stop) (j : stop ≤ l
       let m = rw e at w in
       let z = part_long s at (stop - at) (omega arith) in
       record { from = h; upto = omega arith; lacks = λ k x. missed (length part) k (omega (arith, z)) m (omega (arith, z)); is = λ l. absurd (omega arith) }
+
+-- some bytes and what was found behind them
+pub found_behind : {q : ℕ} {s : Bytes} {at i stop r : ℕ} → at ≤ i → Lacks q s at (i - at) → Found q s i stop r → Found q s at stop r
+found_behind {s = s} {at = at} {i = i} {r = r} h l w = record { from = omega (arith, h, w.from); upto = w.upto; lacks = lacks_join s at i r h l w.lacks; is = w.is }
+
+-- eight more bytes, none of which `contains` finds
+pub lacks_eight : {q : ℕ} (s : Bytes) (at i : ℕ) → at ≤ i → i + 8 ≤ length s → Lacks q s at (i - at) → {r : Bool} → r ≡ false → r ≡ list_any (λ y. eqb y q) (take (i + 8 - i) (drop i s)) → Lacks q s at (i + 8 - at)
+lacks_eight {q} s at i h j a e w = lacks_join s at i (i + 8) h a (λ k l is. absurd (true≢false (sym (list_any_at (λ y. eqb y q) (take (i + 8 - i) (drop i s)) k 0 (rw (part_long s i (i + 8 - i) (omega arith)) l) (eq-eqb _ _ (part_at s i (i + 8 - i) k l ∙ is))) ∙ sym w ∙ e)))
 
 -- names whose bytes and ends are compared
 pub stands_same : (s : Bytes) (a b n : ℕ) (r z : Bool) → r ≡ pointwise eqb (take (a + n - a) (drop a s)) (take (b + n - b) (drop b s)) → z ≡ false → r ≡ not z && same (take n (drop a s)) (take n (drop b s))

@@ -4,7 +4,7 @@ ghost use Rattle.std.specs.Prelude.{◌≡◌, true, ◌&&◌, not, ◌+◌, ◌
 ghost use Rattle.grammar.specs.Bytes.{same};
 ghost use Rattle.grammar.specs.Limits.{NAME, ATTRIBUTES};
 ghost use Rattle.grammar.specs.Name.{name_start, name_byte};
-ghost use Rattle.tags.specs.Names.{Part, Run, Named, Found, Stood, Repeats, mark_of, Ready, Meets, NameTo, FreshSays};
+ghost use Rattle.tags.specs.Names.{Part, Run, Named, Lacks, Found, Stood, Repeats, mark_of, Ready, Meets, NameTo, FreshSays};
 ghost use Rattle.tags.specs.Inner.{Opened, AttributeSays, PutRow, EndSays};
 ghost use Rattle.tags.specs.Heads.{HeadSays};
 
@@ -27,13 +27,27 @@ pub struct Tag {
     pub end: usize,
 }
 
+// Where fewer than eight bytes in a row are not q. In a part of constant length `contains` is one test without a branch; `position` goes byte by byte.
+fn clear_eights(s: &[u8], at: usize, stop: usize, q: u8) -> usize
+    requires { (at ≤ stop) × (stop ≤ length s.now) }
+    ensures { (at ≤ result) × (result ≤ stop) × Lacks q s.now at (result - at) }
+{
+    let mut i = at;
+    // Counted by hand: the answer is how far the steps of eight came, which a `for` over them does not hand out.
+    while 8 <= stop - i && !s[i..i + 8].contains(&q) {
+        i += 8;
+    }
+    i
+}
+
 // The first q from `at` on, before `stop`; `stop` if there is none.
 fn next(s: &[u8], at: usize, stop: usize, q: u8) -> usize
     requires { (at ≤ stop) × (stop ≤ length s.now) }
     ensures { Found q s.now at stop result }
 {
-    match s[at..stop].iter().position(|&b| b == q) {
-        Some(n) => at + n,
+    let from = clear_eights(s, at, stop, q);
+    match s[from..stop].iter().position(|&b| b == q) {
+        Some(n) => from + n,
         None => stop,
     }
 }
