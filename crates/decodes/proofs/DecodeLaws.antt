@@ -1,11 +1,11 @@
 -- A value walked to its end: how long it reads, and its bytes put one behind the other.
 use mathlib.Core.Path.{◌≡◌, refl, sym, ap, subst, ◌∙◌}
 use mathlib.Core.List.{List, [], ◌∷◌, ◌++◌, append_assoc}
-use Prim.Native.Nat.{ℕ, suc, ◌+◌, ◌≤◌, ◌<◌}
+use Prim.Native.Nat.{ℕ, suc, ◌+◌, ◌≤◌, ◌<◌, min}
 use native.Mathlib.Omega.{arith}
 use native.Mathlib.Numerals.{add-one}
 use lib.ListN.{length, take, drop, set, get_or, length-append, length-set, take-append-drop}
-use lib.Seq.{drop-cons, drop-drop, length-take-le, take-suc, take_all, drop-append_seam, take-append_seam}
+use lib.Seq.{drop-cons, drop-drop, get_or-take, length-take-le, take-suc, take_all, drop-append_seam, take-append_seam}
 use Rattle.grammar.specs.Bytes.{Bytes}
 use Rattle.grammar.specs.Character.{utf8}
 use Rattle.grammar.specs.Value.{Item, read_value}
@@ -95,6 +95,19 @@ putting_end {old} {m} {new} {n} {k} {r} p h e =
     let z : n + k ≡ r = omega arith in
     let t : take k m ≡ m = take_all k m h in
     rw (t, z) at p.put
+
+-- of bytes that begin with m the k-th is put, or stands behind it and is not
+module _ (k : ℕ) {old m new new' : Bytes} {n r : ℕ} (p : Putting old n m new (min k (length m))) (e : r ≡ n + length m) where
+  pub putting_byte : (bytes : Bytes) → take (length m) bytes ≡ m → n + k < r → new' ≡ set new (n + k) (get_or bytes k 0) → Putting old n m new' (min (k + 1) (length m))
+  putting_byte bytes t l f =
+      let h : k < length m = omega arith in
+      let z : min k (length m) ≡ k = omega arith in
+      let y : min (k + 1) (length m) ≡ k + 1 = omega arith in
+      let b : get_or bytes k 0 ≡ get_or m k 0 = sym (get_or-take (length m) bytes k 0 h) ∙ ap (λ (x : Bytes). get_or x k 0) t in
+      rw (f, y) (putting_more (rw z at p) h b)
+
+  pub byte_behind : r ≤ n + k → new' ≡ new → Putting old n m new' (min (k + 1) (length m))
+  byte_behind l f = let z : min (k + 1) (length m) ≡ min k (length m) = omega arith in rw (f, z) p
 
 -- what was read up to i stands first, if there is room for it
 pub record Filled (src old new : Bytes) (i n : ℕ) : Type 0 where

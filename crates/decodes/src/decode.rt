@@ -27,8 +27,12 @@ fn put_utf8(out: &mut [u8], n: usize, next: usize, c: usize) -> usize
     ensures { PutInRoom out.old n (utf8 c) out.new result }
 {
     if next <= out.len() {
-        let bytes = utf8_bytes(c);
-        out[n..next].copy_from_slice(&bytes[..next - n]);
+        // A test for each byte: a copy up to `next`, in a loop too, is a call of memcpy for each character.
+        for (k, &b) in utf8_bytes(c).iter().enumerate() {
+            if n + k < next {
+                out[n + k] = b;
+            }
+        }
     }
     next
 }

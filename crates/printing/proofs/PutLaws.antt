@@ -1,52 +1,40 @@
--- Bytes put at once: as many as fit.
-use mathlib.Core.Path.{◌≡◌, refl, sym, ap, ◌∙◌}
-use mathlib.Core.List.{[], ◌++◌}
+-- A write in a loop: the first k bytes are put.
+use mathlib.Core.Path.{◌≡◌, refl, ap, ◌∙◌}
 use Prim.Native.Nat.{ℕ, ◌+◌, ◌-◌, ◌≤◌, ◌<◌, min}
+use native.Mathlib.Nat.{add-zero}
+use native.Mathlib.Numerals.{add-one}
 use native.Mathlib.Omega.{arith}
 use lib.Dec.{leb}
-use lib.ListN.{length, take, drop}
-use lib.Seq.{take_all}
+use lib.ListN.{length, take, set, get_or}
+use lib.Seq.{take_all, take-suc}
 use borrow.Author.Tests.{leb-true, leb-false}
-use borrow.Rule.Slice.PartMut.{put_mid}
-use Rattle.std.proofs.Common.{append_assoc, length-take-le}
-use Rattle.std.proofs.lemmas.List.{take-append-drop}
-use Rattle.std.proofs.lemmas.Slice.{take-put_mid, drop-put_mid}
 use Rattle.grammar.specs.Bytes.{Bytes}
 use Rattle.number.proofs.Tests.{cases}
 use Rattle.printing.specs.Put.{put_at, Wrote}
-use Rattle.printing.specs.Writes.{put_fits, length_put, wrote_none}
+use Rattle.printing.specs.Writes.{put_fits, wrote_none, ◌then◌, one_in}
 
 -- under another name
 pub wrote_to : {o m n p : Bytes} {at r : ℕ} → p ≡ n → Wrote o at m n r → Wrote o at m p r
 wrote_to e w = record { bytes = e ∙ w.bytes; next = w.next; long = ap length e ∙ w.long }
 
--- behind the end
-pub all_out : (o : Bytes) (at : ℕ) (m : Bytes) → length o ≤ at → Wrote o at m o (at + length m)
-all_out o at m h = record { bytes = (wrote_none o at).bytes ∙ put_fits o at 0 m (omega arith); next = refl; long = refl }
+-- the first k bytes of m are put
+pub record Putting (old : Bytes) (at : ℕ) (m new : Bytes) (k : ℕ) : Type 0 where
+  pub upto : k ≤ length m
+  pub put : Wrote old at (take k m) new (at + k)
 
--- what fits stands in a part of the buffer
-pub all_in : (o ys m : Bytes) (at k most : ℕ) → at < length o → most ≡ min (length m) (length o - at) → k ≡ most → ys ≡ take most m → Wrote o at m (put_mid at k o ys) (at + length m)
-unfolding put_at
-all_in o ys m at k most l e f g = record { bytes = parts ∙ same ∙ fits; next = refl; long = ap length (parts ∙ same ∙ fits) ∙ length_put o at m }
+pub putting_none : (old : Bytes) (at : ℕ) (m : Bytes) → Putting old at m old 0
+putting_none old at m = record { upto = omega arith; put = rw add-zero (wrote_none old at) }
+
+pub putting_more : {old m new : Bytes} {at k : ℕ} → Putting old at m new k → k < length m → Putting old at m (set new (at + k) (get_or m k 0)) (k + 1)
+putting_more {old} {m} {new} {at} {k} p h =
+    let z : at + (k + 1) ≡ at + k + 1 = omega arith in
+    record { upto = omega arith; put = rw (z, add-one k, take-suc m k 0 h) (p.put then one_in new (at + k) (get_or m k 0)) }
+
+-- all that fits is put
+pub putting_end : {old m new : Bytes} {at k : ℕ} → Putting old at m new k → min (length m) (length old - at) ≤ k → Wrote old at m new (at + length m)
+putting_end {old} {m} {new} {at} {k} p h = record { bytes = p.put.bytes ∙ enough; next = refl; long = p.put.long }
   where
-    long : length (take most m) ≡ most
-    long = length-take-le most m (omega arith)
-
-    enough : length ys ≡ k
-    enough = ap length g ∙ long ∙ sym f
-
-    parts : put_mid at k o ys ≡ take at o ++ (take most m ++ drop (at + most) o)
-    parts =
-        let a : take (at + k) (put_mid at k o ys) ≡ take at o ++ ys = take-put_mid at k o ys (at + k) (omega (arith, enough)) (omega arith) in
-        let b : drop (at + k) (put_mid at k o ys) ≡ drop (at + k) o = drop-put_mid at k o ys (at + k) (omega arith) (omega arith) enough in
-        let c : put_mid at k o ys ≡ (take at o ++ ys) ++ drop (at + k) o = sym (take-append-drop (at + k) (put_mid at k o ys)) ∙ rw (a, b) in
-        c ∙ append_assoc (take at o) ys (drop (at + k) o) ∙ rw (g, f)
-
-    same : take at o ++ (take most m ++ drop (at + most) o) ≡ put_at o at (take most m)
-    same = let t : take (length o - at) (take most m) ≡ take most m = take_all (length o - at) (take most m) (omega (arith, long)) in rw (t, long)
-
-    fits : put_at o at (take most m) ≡ put_at o at m
-    fits =
-        cases (leb (length m) most)
-        (λ t. ap (put_at o at) (take_all most m (leb-true (length m) most t)))
-        (λ t. put_fits o at most m (omega (arith, leb-false (length m) most t)))
+    enough : put_at old at (take k m) ≡ put_at old at m
+    enough =
+        cases (leb (length m) k) (λ l. ap (put_at old at) (take_all k m (leb-true (length m) k l)))
+        (λ l. put_fits old at k m (omega (arith, leb-false (length m) k l)))

@@ -18,9 +18,10 @@ pub fn put(out: &mut [u8], at: usize, m: &[u8]) -> usize
     requires { Countable at m.now }
     ensures { Wrote out.old at m.now out.new result }
 {
-    if at < out.len() {
-        let most = m.len().min(out.len() - at);
-        out[at..at + most].copy_from_slice(&m[..most]);
+    let most = m.len().min(out.len().saturating_sub(at));
+    // Byte by byte: a copy of slices is a call of memmove, which a library for C is to ask of nobody who links it.
+    for i in 0..most {
+        out[at + i] = m[i];
     }
     at + m.len()
 }

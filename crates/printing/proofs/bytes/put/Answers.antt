@@ -1,12 +1,13 @@
--- What fits is stored, and all is counted.
+-- The invariant: the first i bytes are put.
 use native.Mathlib.Omega.{arith}
-use Rattle.printing.proofs.PutLaws.{all_in, all_out, wrote_to}
+use Rattle.printing.proofs.PutLaws.{putting_none, putting_more, putting_end}
 use Rattle.printing.proofs.bytes.put.Goals as goal
-use Rattle.printing.proofs.bytes.put.Goals.{then-at-out, else-at-out}
+
+pub loop-i-init : goal.loop-i-init
+loop-i-init c = putting_none _ _ _
+
+pub loop-i-preserved : goal.loop-i-preserved
+loop-i-preserved c = putting_more c.loop-i.invariant (omega arith)
 
 pub returns : goal.returns
-returns c =
-    elim c.if-at-out.branch [
-      | then-at-out w ↦ wrote_to w.out-is (all_in _ _ _ _ _ w.min-most.result w.if-at-out.true w.min-most.ensures (omega arith) w.copy_from_slice.ensures.after)
-      | else-at-out w ↦ wrote_to w.out-is (all_out _ _ _ w.if-at-out.false)
-    ]
+returns c = putting_end c.loop-i.invariant (omega arith)
