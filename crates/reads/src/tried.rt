@@ -1,5 +1,5 @@
 // What a row says.
-ghost use Rattle.std.specs.Prelude.{◌≡◌, [], ◌∷◌, Some};
+ghost use Rattle.std.specs.Prelude.{◌≡◌, [], ◌∷◌, Some, cond, eqb};
 ghost use Rattle.message.specs.Cells.{words_cell};
 ghost use Rattle.rows.specs.Coding.{may_miss};
 ghost use Rattle.reads.specs.Kept.{cell_as, lacking, carried_by, verdict_in, verdict_of};
@@ -56,6 +56,18 @@ impl Cell {
 pub struct Tried {
     pub cell: Cell,
     pub answer: Result<(), Refusal>,
+}
+
+impl Tried {
+    /// What was found of a child, held against its row's need: it is handed on, a refusal too, but where nothing is there.
+    pub fn carried(self, need: Need) -> Tried
+        ensures { verdict_of result ≡ cond (eqb self.cell.there 0) (lacking (may_miss need)) (verdict_of self) }
+    {
+        if self.cell.there == 0 {
+            return Tried::from(missing(need));
+        }
+        self
+    }
 }
 
 impl From<Result<Cell, Refusal>> for Tried {
