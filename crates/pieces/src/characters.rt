@@ -17,8 +17,10 @@ use scan::{Step, Stop};
 fn is_text(b: u8) -> bool
     ensures { result ≡ text_byte b }
 {
+    if b < b' ' {
+        return scan::is_glue(b);
+    }
     match b {
-        0..=0x1F => scan::is_glue(b),
         b'<' | b'&' | 0x80..=0xFF => false,
         _ => true,
     }

@@ -12,11 +12,9 @@ use lib.Pointwise.{pointwise}
 use borrow.Author.Tests.{leb-true, leb-false, eq-eqb}
 use Rattle.model.specs.Tests.{and_left, and_right, and_false, same_true}
 use Rattle.grammar.specs.Bytes.{Bytes, every, same}
-use Rattle.std.specs.Prelude.{Option, Some, None}
-use Rattle.std.specs.Option.{MatchOption}
-use Rattle.std.specs.List.{AllWithin, HoldsAt, list_any}
+use Rattle.std.specs.List.{list_any}
 use Rattle.std.proofs.lemmas.List.Folds.{list_any_at}
-use Rattle.tags.specs.Names.{Lacks, Found}
+use Rattle.tags.specs.Names.{Lacks}
 
 pub part_long : (s : Bytes) (a n : ℕ) → a + n ≤ length s → length (take n (drop a s)) ≡ n
 part_long s a n h = rw (length-take, length-drop) (omega arith)
@@ -54,38 +52,6 @@ lacks_join {q} s i j k h a b m l = go (leb (suc m) (j - i)) refl
         let n = leb-false (suc m) (j - i) e in
         let z : j + (m - (j - i)) ≡ i + m = omega arith in
         subst (λ (x : ℕ). get_or s x 0 ≡ q → ⊥) z (b (m - (j - i)) (omega arith))
-
--- the first byte that is q, as `position` finds it
-module _ (q : ℕ) (s : Bytes) (at stop : ℕ) (h : at ≤ stop) (j : stop ≤ length s) where
-  abbrev part : Bytes
-  part = take (stop - at) (drop at s)
-
-  missed : (n k : ℕ) → n ≤ stop - at → AllWithin (λ b. b ≡ q → ⊥) part 0 n → k < n → get_or s (at + k) 0 ≡ q → ⊥
-  missed n k l w i e = w k 0 (omega arith) i (part_at s at (stop - at) k (omega arith) ∙ e)
-
-  pub found_at : {r : Option ℕ} {n : ℕ} → r ≡ Some n → MatchOption r (AllWithin (λ b. b ≡ q → ⊥) part 0 (length part)) (λ i. (i < length part) × HoldsAt (λ b. b ≡ q) part i × AllWithin (λ b. b ≡ q → ⊥) part 0 i)
-      → Found q s at stop (at + n)
-  found_at {n = n} e w =
-      let (l, i, m) = rw e at w in
-      let z = part_long s at (stop - at) (omega arith) in
-      let y : n < stop - at = omega (arith, l, z) in
-      record {
-        from = omega arith;
-        upto = omega arith;
-        lacks = λ k x. missed n k (omega arith) m (omega arith);
-        is = λ _. sym (part_at s at (stop - at) n y) ∙ i 0;
-      }
-
-  pub found_none : {r : Option ℕ} → r ≡ None → MatchOption r (AllWithin (λ b. b ≡ q → ⊥) part 0 (length part)) (λ i. (i < length part) × HoldsAt (λ b. b ≡ q) part i × AllWithin (λ b. b ≡ q → ⊥) part 0 i)
-      → Found q s at stop stop
-  found_none e w =
-      let m = rw e at w in
-      let z = part_long s at (stop - at) (omega arith) in
-      record { from = h; upto = omega arith; lacks = λ k x. missed (length part) k (omega (arith, z)) m (omega (arith, z)); is = λ l. absurd (omega arith) }
-
--- some bytes and what was found behind them
-pub found_behind : {q : ℕ} {s : Bytes} {at i stop r : ℕ} → at ≤ i → Lacks q s at (i - at) → Found q s i stop r → Found q s at stop r
-found_behind {s = s} {at = at} {i = i} {r = r} h l w = record { from = omega (arith, h, w.from); upto = w.upto; lacks = lacks_join s at i r h l w.lacks; is = w.is }
 
 -- eight more bytes, none of which `contains` finds
 pub lacks_eight : {q : ℕ} (s : Bytes) (at i : ℕ) → at ≤ i → i + 8 ≤ length s → Lacks q s at (i - at) → {r : Bool} → r ≡ false → r ≡ list_any (λ y. eqb y q) (take (i + 8 - i) (drop i s)) → Lacks q s at (i + 8 - at)

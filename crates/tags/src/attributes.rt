@@ -27,7 +27,7 @@ pub struct Tag {
     pub end: usize,
 }
 
-// Where fewer than eight bytes in a row are not q. In a part of constant length `contains` is one test without a branch; `position` goes byte by byte.
+// Where fewer than eight bytes in a row are not q. In a part of constant length `contains` is one test without a branch.
 fn clear_eights(s: &[u8], at: usize, stop: usize, q: u8) -> usize
     requires { (at ≤ stop) × (stop ≤ length s.now) }
     ensures { (at ≤ result) × (result ≤ stop) × Lacks q s.now at (result - at) }
@@ -45,11 +45,12 @@ fn next(s: &[u8], at: usize, stop: usize, q: u8) -> usize
     requires { (at ≤ stop) × (stop ≤ length s.now) }
     ensures { Found q s.now at stop result }
 {
-    let from = clear_eights(s, at, stop, q);
-    match s[from..stop].iter().position(|&b| b == q) {
-        Some(n) => from + n,
-        None => stop,
+    for i in clear_eights(s, at, stop, q)..stop {
+        if s[i] == q {
+            return i;
+        }
     }
+    stop
 }
 
 // Whether the n bytes at b are the whole name that stands at a.

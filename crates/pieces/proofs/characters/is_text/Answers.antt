@@ -16,8 +16,8 @@ use Rattle.pieces.proofs.characters.is_text.Goals as goal
 abbrev t : ℕ → Bool
 t b = plain_byte (banned 60) b
 
-pub returns-in-0-to-31 : goal.returns-in-0-to-31
-returns-in-0-to-31 c = c.is_glue.ensures ∙ text_low _ (omega arith)
+pub returns-then-b-lt32 : goal.returns-then-b-lt32
+returns-then-b-lt32 c = c.is_glue.ensures ∙ text_low _ (omega arith)
 
 pub returns-in-60 : goal.returns-in-60
 unfolding plain_byte banned is_char within
