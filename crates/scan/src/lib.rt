@@ -23,7 +23,10 @@ pub type Step = Result<usize, Stop>;
 pub fn is_glue(b: u8) -> bool
     ensures { result ≡ is_glue b }
 {
-    b <= b' ' && matches!(b, b' ' | b'\t' | b'\r' | b'\n')
+    if b' ' < b {
+        return false;
+    }
+    matches!(b, b' ' | b'\t' | b'\r' | b'\n')
 }
 
 /// Whether a name may start with b.
@@ -45,12 +48,16 @@ pub fn skip_glue(s: &[u8], at: usize) -> usize
     requires { at ≤ length s.now }
     ensures { Skipped s.now at result }
 {
-    for i in at..s.len() {
-        if !is_glue(s[i]) {
+    let mut i = at;
+    // Counted by hand: a `for` over the places takes more instructions a byte where blanks stand in a tag.
+    while i < s.len() {
+        if is_glue(s[i]) {
+            i += 1;
+        } else {
             return i;
         }
     }
-    s.len()
+    i
 }
 
 /// Glue, and a byte behind it that is none.

@@ -1,16 +1,14 @@
 use mathlib.Core.List.{[], ◌∷◌}
 use mathlib.Core.Bool.{true, false}
-use mathlib.Core.Path.{◌∙◌}
 use native.Mathlib.Omega.{arith}
-use borrow.Author.Tests.{lt-leb}
 use Rattle.grammar.specs.Bytes.{within}
 use Rattle.grammar.specs.Glue.{is_glue}
 use Rattle.scan.proofs.Classes.{ranged, keyed, ranged_but}
 use Rattle.scan.proofs.is_glue.Goals as goal
 
-pub returns-else-b-le32 : goal.returns-else-b-le32
+pub returns-then-b-gt32 : goal.returns-then-b-gt32
 unfolding is_glue within
-returns-else-b-le32 c = lt-leb _ _ c.if-b-le32.false ∙ ranged is_glue false 33 223 tt c.args.b (omega arith) (omega arith)
+returns-then-b-gt32 c = ranged is_glue false 33 223 tt c.args.b (omega arith) (omega arith)
 
 pub returns-in_default : goal.returns-in_default
 unfolding is_glue within
